@@ -1,0 +1,9 @@
+pub mod Comments
+pub mod Names
+pub mod Numbers
+pub mod Fits
+pub mod Steps
+pub mod Gathering
+pub mod Munch
+pub mod Stand
+pub mod Causes

@@ -1,0 +1,65 @@
+ghost use Rattle.std.specs.Prelude.{◌≡◌, [], ◌∷◌, ◌++◌, true, false, map, OnOk};
+ghost use Rattle.sq_base.specs.Gives.{Gives};
+ghost use Rattle.sq_lex.specs.Lex as spec;
+ghost use Rattle.sq_lex.specs.Gathered.{closed, grown};
+
+use crate::LexFault;
+use sq_base::{NoMemory, Seq};
+use sq_token::{Punctuation, Sentence, Token};
+use std::alloc::Global;
+use std::mem;
+
+/// The sentences that are done, and the tokens since the last stop with the line of the first.
+#[derive(Drop)]
+pub struct Sentences {
+    done: Seq<Sentence>,
+    tokens: Seq<Token>,
+    line: u32,
+}
+
+impl Sentences {
+    pub fn new(alloc: Global) -> Sentences
+        ensures { result ≡ record { done = []; tokens = []; line = 1 } }
+    {
+        Sentences {
+            done: Seq::new(alloc),
+            tokens: Seq::new(alloc),
+            line: 1,
+        }
+    }
+
+    /// Takes in the next token, which stands on this line.
+    pub fn push(&mut self, token: Token, line: u32) -> Result<(), NoMemory>
+        ensures stop { OnOk result (spec.is_stop token.kind ≡ true → self.new ≡ closed self.old line) }
+        ensures other { OnOk result (spec.is_stop token.kind ≡ false → self.new ≡ grown self.old token line) }
+    {
+        if self.tokens.is_empty() {
+            self.line = line;
+        }
+        if token.is_mark(Punctuation::Dot) {
+            let empty = Seq::new(self.tokens.allocator());
+            let tokens = mem::replace(&mut self.tokens, empty);
+            self.done.push(Sentence {
+                tokens,
+                line: self.line,
+            })
+        } else {
+            self.tokens.push(token)
+        }
+    }
+
+    /// The sentences, where no token stands behind the last stop.
+    pub fn finish(self) -> Result<Seq<Sentence>, LexFault>
+        ensures { Gives LexFault.NoMemory (map spec.line_of) result (spec.joined (map spec.line_of self.done) (spec.unfinished (map spec.lexeme_of self.tokens))) }
+    {
+        let Sentences {
+            done,
+            tokens,
+            line: _,
+        } = self;
+        match tokens.as_slice().first() {
+            None => Ok(done),
+            Some(token) => Err(LexFault::NoStop(token.from)),
+        }
+    }
+}
