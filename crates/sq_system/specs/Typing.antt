@@ -1,0 +1,125 @@
+-- Sorts of terms: which terms are well-sorted in a signature, for a statement, over variables.
+use Rattle.std.specs.Prelude.{ℕ, zero, suc, List, [], ◌∷◌, ◌++◌, Option, Some, None, Bool, true, false, ◌&&◌, ◌==◌, nat_lt, cond, length, replicate, slice_get}
+use Rattle.sq_base.specs.declared.sort.Sort.{Sort}
+use Rattle.sq_base.specs.declared.sort.Sort.TheVariants.{Message, Boolean, Index, Timestamp}
+use Rattle.sq_term.specs.declared.term.Idx.{Idx}
+use Rattle.sq_term.specs.declared.term.Idx.TheVariants.{Free, Bound}
+use Rattle.sq_term.specs.declared.term.Macro.{Macro}
+use Rattle.sq_term.specs.declared.term.Macro.TheVariants.{Input, Output, Cond, Exec, Frame}
+use Rattle.sq_term.specs.declared.signature.FunDecl.{FunDecl}
+use Rattle.sq_term.specs.Signatures.{takes_boolean}
+use Rattle.sq_term.specs.Syntax.{TsTree, free, bound, init, pred, action, TermTree, name, fun, macro, schema, diff, le, ts_eq, idx_eq, happens, all, some, find, TermTrees, nil, cons}
+
+-- What a term may speak of: names with their counts of indices, functions, actions of one system with their counts of indices,
+-- schema variables by their number, and variables with their sorts.
+pub record Signature : Type 0 where
+  pub names : List ℕ
+  pub funs : List FunDecl
+  pub actions : List ℕ
+  pub schemas : ℕ
+  pub vars : List Sort
+
+abbrev pub same_sort : Sort → Sort → Bool
+same_sort Message Message = true
+same_sort Boolean Boolean = true
+same_sort Index Index = true
+same_sort Timestamp Timestamp = true
+same_sort _ _ = false
+
+-- the place of a list has this sort
+abbrev pub has_sort_at : List Sort → ℕ → Sort → Bool
+has_sort_at [] k s = false
+has_sort_at (t ∷ ts) zero s = same_sort t s
+has_sort_at (t ∷ ts) (suc k) s = has_sort_at ts k s
+
+-- the place of a list holds this number
+abbrev pub has_count_at : List ℕ → ℕ → ℕ → Bool
+has_count_at [] k n = false
+has_count_at (m ∷ ms) zero n = m == n
+has_count_at (m ∷ ms) (suc k) n = has_count_at ms k n
+
+-- bs are the sorts of the binders around, the innermost first
+module _ (g : Signature) where
+  abbrev pub is_index : List Sort → Idx → Bool
+  is_index bs (Free k) = has_sort_at g.vars k Index
+  is_index bs (Bound k) = has_sort_at bs k Index
+
+  abbrev pub are_indices : List Sort → List Idx → Bool
+  are_indices bs [] = true
+  are_indices bs (i ∷ is) = is_index bs i && are_indices bs is
+
+  abbrev pub is_timestamp : List Sort → TsTree → Bool
+  is_timestamp bs (free k) = has_sort_at g.vars k Timestamp
+  is_timestamp bs (bound k) = has_sort_at bs k Timestamp
+  is_timestamp bs init = true
+  is_timestamp bs (pred t) = is_timestamp bs t
+  is_timestamp bs (action a is) = has_count_at g.actions a (length is) && are_indices bs is
+
+  -- the function with these counts of indices and arguments
+  abbrev pub applies : Option FunDecl → ℕ → ℕ → Bool
+  applies None i n = false
+  applies (Some d) i n = (d.idx == i) && (d.args == n)
+
+  abbrev pub result_sort : Option FunDecl → Sort
+  result_sort None = Index
+  result_sort (Some d) = d.result
+
+abbrev pub macro_sort : Macro → Sort
+macro_sort Input = Message
+macro_sort Output = Message
+macro_sort Cond = Boolean
+macro_sort Exec = Boolean
+macro_sort Frame = Message
+
+-- a quantifier binds an index or a timestamp
+abbrev pub is_binder_sort : Sort → Bool
+is_binder_sort Message = false
+is_binder_sort Boolean = false
+is_binder_sort Index = true
+is_binder_sort Timestamp = true
+
+abbrev pub count_terms : TermTrees → ℕ
+count_terms nil = 0
+count_terms (cons t ts) = suc (count_terms ts)
+
+abbrev pub argument_sort : ℕ → ℕ → Sort
+argument_sort f k = cond (takes_boolean f k) Boolean Message
+
+-- the term has the sort
+abbrev mutual
+  pub has_sort : Signature → List Sort → Sort → TermTree → Bool
+  has_sort g bs s (name n is) = same_sort Message s && (has_count_at g.names n (length is) && are_indices g bs is)
+  has_sort g bs s (fun f is ts) =
+      same_sort (result_sort g (slice_get g.funs f)) s
+      && (applies g (slice_get g.funs f) (length is) (count_terms ts) && (are_indices g bs is && have_sorts g bs f 0 ts))
+  has_sort g bs s (macro m t) = same_sort (macro_sort m) s && is_timestamp g bs t
+  has_sort g bs s (schema k) = same_sort Message s && nat_lt k g.schemas
+  has_sort g bs s (diff a b) = has_sort g bs s a && has_sort g bs s b
+  has_sort g bs s (le t u) = same_sort Boolean s && (is_timestamp g bs t && is_timestamp g bs u)
+  has_sort g bs s (ts_eq t u) = same_sort Boolean s && (is_timestamp g bs t && is_timestamp g bs u)
+  has_sort g bs s (idx_eq i j) = same_sort Boolean s && (is_index g bs i && is_index g bs j)
+  has_sort g bs s (happens t) = same_sort Boolean s && is_timestamp g bs t
+  has_sort g bs s (all b t) = same_sort Boolean s && (is_binder_sort b && has_sort g (b ∷ bs) Boolean t)
+  has_sort g bs s (some b t) = same_sort Boolean s && (is_binder_sort b && has_sort g (b ∷ bs) Boolean t)
+  has_sort g bs s (find c t a b) =
+      same_sort Message s
+      && (has_sort g (replicate c Index ++ bs) Boolean t && (has_sort g (replicate c Index ++ bs) Message a && has_sort g bs Message b))
+
+  -- the arguments of function f from number k on
+  pub have_sorts : Signature → List Sort → ℕ → ℕ → TermTrees → Bool
+  have_sorts g bs f k nil = true
+  have_sorts g bs f k (cons t ts) = has_sort g bs (argument_sort f k) t && have_sorts g bs f (suc k) ts
+
+-- quantifiers bind indices alone
+abbrev mutual
+  pub binds_indices : TermTree → Bool
+  binds_indices (fun f is ts) = bind_indices ts
+  binds_indices (diff a b) = binds_indices a && binds_indices b
+  binds_indices (all s t) = same_sort s Index && binds_indices t
+  binds_indices (some s t) = same_sort s Index && binds_indices t
+  binds_indices (find c t a b) = binds_indices t && (binds_indices a && binds_indices b)
+  binds_indices _ = true
+
+  pub bind_indices : TermTrees → Bool
+  bind_indices nil = true
+  bind_indices (cons t ts) = binds_indices t && bind_indices ts
