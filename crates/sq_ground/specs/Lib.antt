@@ -1,0 +1,10 @@
+pub mod Truth
+pub mod Lines
+pub mod Replaced
+pub mod Rules
+pub mod Derivations
+pub mod Holding
+pub mod Usable
+pub mod Theories
+pub mod Laws
+pub mod Answers
