@@ -1,0 +1,4 @@
+pub mod Args
+pub mod Inversion
+pub mod Holding
+pub mod LogicSound

@@ -1,0 +1,5 @@
+pub mod Limits
+pub mod Views
+pub mod Premises
+pub mod Logic
+pub mod Soundness

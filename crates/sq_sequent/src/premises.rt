@@ -1,0 +1,181 @@
+// Premises, made from the sequent that they are to show.
+ghost use Rattle.std.specs.Prelude.{◌≡◌, IfOk, [], ◌∷◌};
+ghost use Rattle.sq_base.specs.Gives.{Gives};
+ghost use Rattle.sq_term.specs.View.{term_tree};
+ghost use Rattle.sq_system.specs.Sequents.{sequent_tree};
+ghost use Rattle.sq_sequent.specs.Premises as spec;
+ghost use Rattle.sq_sequent.specs.Logic.{sequent_trees, within_limits};
+
+use crate::fault::RuleFault;
+use crate::limits::judge;
+use sq_base::{NoMemory, Seq, Sort};
+use sq_system::{Both, Sequent};
+use sq_term::{Term, copy};
+use std::alloc::Global;
+
+fn copy_sorts(alloc: Global, sorts: &Seq<Sort>) -> Result<Seq<Sort>, NoMemory>
+    ensures { IfOk result (λ c. c ≡ sorts.now) }
+{
+    Seq::from_slice(alloc, sorts.as_slice())
+}
+
+/// Equal terms, in their order.
+pub fn copy_terms(alloc: Global, terms: &[Term]) -> Result<Seq<Term>, NoMemory>
+    ensures { IfOk result (λ c. c ≡ terms.now) }
+{
+    let mut out = Seq::new(alloc);
+    for term in terms {
+        out.push(copy(alloc, term)?)?;
+    }
+    Ok(out)
+}
+
+fn copy_items(alloc: Global, items: &[Both]) -> Result<Seq<Both>, NoMemory>
+    ensures { IfOk result (λ c. c ≡ items.now) }
+{
+    let mut out = Seq::new(alloc);
+    for item in items {
+        let left = copy(alloc, &item.left)?;
+        let right = copy(alloc, &item.right)?;
+        out.push(Both { left, right })?;
+    }
+    Ok(out)
+}
+
+fn copy_known(alloc: Global, known: &[Seq<Both>]) -> Result<Seq<Seq<Both>>, NoMemory>
+    ensures { IfOk result (λ c. c ≡ known.now) }
+{
+    let mut out = Seq::new(alloc);
+    for items in known {
+        out.push(copy_items(alloc, items.as_slice())?)?;
+    }
+    Ok(out)
+}
+
+/// An equal sequent.
+pub fn copy_sequent(alloc: Global, s: &Sequent) -> Result<Sequent, NoMemory>
+    ensures { IfOk result (λ c. c ≡ s.now) }
+{
+    match s {
+        Sequent::Trace { vars, hyps, goal } => Ok(Sequent::Trace {
+            vars: copy_sorts(alloc, vars)?,
+            hyps: copy_terms(alloc, hyps.as_slice())?,
+            goal: copy(alloc, goal)?,
+        }),
+        Sequent::Local {
+            side,
+            vars,
+            hyps,
+            goal,
+        } => Ok(Sequent::Local {
+            side: *side,
+            vars: copy_sorts(alloc, vars)?,
+            hyps: copy_terms(alloc, hyps.as_slice())?,
+            goal: copy(alloc, goal)?,
+        }),
+        Sequent::Equiv {
+            vars,
+            hyps,
+            known,
+            items,
+        } => Ok(Sequent::Equiv {
+            vars: copy_sorts(alloc, vars)?,
+            hyps: copy_terms(alloc, hyps.as_slice())?,
+            known: copy_known(alloc, known.as_slice())?,
+            items: copy_items(alloc, items.as_slice())?,
+        }),
+    }
+}
+
+/// The sequent's hypotheses with this goal. Of an equivalence it is asked as a Trace sequent.
+pub fn asking(alloc: Global, s: &Sequent, goal: Term) -> Result<Sequent, NoMemory>
+    ensures { IfOk result (λ p. sequent_tree p ≡ spec.asking (sequent_tree s.now) (term_tree goal)) }
+{
+    match s {
+        Sequent::Trace { vars, hyps, .. } | Sequent::Equiv { vars, hyps, .. } => Ok(
+            Sequent::Trace {
+                vars: copy_sorts(alloc, vars)?,
+                hyps: copy_terms(alloc, hyps.as_slice())?,
+                goal,
+            },
+        ),
+        Sequent::Local {
+            side,
+            vars,
+            hyps,
+            ..
+        } => Ok(Sequent::Local {
+            side: *side,
+            vars: copy_sorts(alloc, vars)?,
+            hyps: copy_terms(alloc, hyps.as_slice())?,
+            goal,
+        }),
+    }
+}
+
+/// The sequent with one more hypothesis.
+pub fn assuming(s: Sequent, hyp: Term) -> Result<Sequent, NoMemory>
+    ensures { IfOk result (λ p. sequent_tree p ≡ spec.assuming (sequent_tree s) (term_tree hyp)) }
+{
+    match s {
+        Sequent::Trace {
+            vars,
+            mut hyps,
+            goal,
+        } => {
+            hyps.push(hyp)?;
+            Ok(Sequent::Trace { vars, hyps, goal })
+        }
+        Sequent::Local {
+            side,
+            vars,
+            mut hyps,
+            goal,
+        } => {
+            hyps.push(hyp)?;
+            Ok(Sequent::Local {
+                side,
+                vars,
+                hyps,
+                goal,
+            })
+        }
+        Sequent::Equiv {
+            vars,
+            mut hyps,
+            known,
+            items,
+        } => {
+            hyps.push(hyp)?;
+            Ok(Sequent::Equiv {
+                vars,
+                hyps,
+                known,
+                items,
+            })
+        }
+    }
+}
+
+/// The one premise, or TooLarge.
+pub fn one_premise(alloc: Global, premise: Sequent) -> Result<Seq<Sequent>, RuleFault>
+    ensures { Gives RuleFault.NoMemory sequent_trees result (within_limits (sequent_tree premise ∷ [])) }
+{
+    let mut premises = Seq::new(alloc);
+    premises.push(premise)?;
+    judge(premises)
+}
+
+/// The two premises, or TooLarge.
+pub fn two_premises(
+    alloc: Global,
+    first: Sequent,
+    second: Sequent,
+) -> Result<Seq<Sequent>, RuleFault>
+    ensures { Gives RuleFault.NoMemory sequent_trees result (within_limits (sequent_tree first ∷ sequent_tree second ∷ [])) }
+{
+    let mut premises = Seq::new(alloc);
+    premises.push(first)?;
+    premises.push(second)?;
+    judge(premises)
+}
