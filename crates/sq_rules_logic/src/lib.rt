@@ -1,0 +1,53 @@
+//! The logic rows of the calculus: a step's premises, exactly.
+#![tactic(auto)]
+
+ghost use Rattle.std.specs.Prelude.{IfOk};
+ghost use Rattle.sq_base.specs.Gives.{Gives};
+ghost use Rattle.sq_system.specs.Environments.{env_tree};
+ghost use Rattle.sq_system.specs.Sequents.{sequent_tree};
+ghost use Rattle.sq_sequent.specs.Logic.{sequent_trees, logic_premises};
+ghost use Rattle.sq_sequent.specs.Soundness.{PremisesSuffice};
+
+mod propositional;
+
+use sq_base::Seq;
+use sq_sequent::{Env, RuleFault, Sequent, Step};
+use std::alloc::Global;
+
+/// The premises that this step leaves of the sequent, in their order.
+///
+/// Shape comes where the row does not apply or the step is of another family, TooLarge where a
+/// premise would pass the limits of a sequent.
+pub fn premises(
+    alloc: Global,
+    step: &Step,
+    s: &Sequent,
+    env: &Env,
+    goal: u32,
+) -> Result<Seq<Sequent>, RuleFault>
+    ensures exact { Gives RuleFault.NoMemory sequent_trees result (logic_premises step.now (sequent_tree s.now) (env_tree env.now) goal) }
+    ensures sound { IfOk result (λ ps. PremisesSuffice (env_tree env.now) goal (sequent_trees ps) (sequent_tree s.now)) }
+{
+    match row(alloc, step, s, env, goal) {
+        Ok(premises) => Ok(premises),
+        Err(fault) => Err(fault),
+    }
+}
+
+fn row(
+    alloc: Global,
+    step: &Step,
+    s: &Sequent,
+    env: &Env,
+    goal: u32,
+) -> Result<Seq<Sequent>, RuleFault>
+    ensures { Gives RuleFault.NoMemory sequent_trees result (logic_premises step.now (sequent_tree s.now) (env_tree env.now) goal) }
+{
+    match step {
+        Step::Hyp(h) => propositional::hyp(alloc, s, *h),
+        Step::Impi => propositional::impi(alloc, s),
+        Step::Andi => propositional::andi(alloc, s),
+        Step::Ande(h) => propositional::ande(alloc, s, *h),
+        _ => Err(RuleFault::Shape),
+    }
+}
