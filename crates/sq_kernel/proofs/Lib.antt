@@ -1,0 +1,4 @@
+pub mod Stacks
+pub mod Sound
+mod Last
+mod Verdicts
