@@ -1,0 +1,7 @@
+mod Bytes
+mod Meaning
+mod Scans
+mod Chains
+mod Sentences
+mod Listing
+mod Grammars

@@ -1,0 +1,137 @@
+// What is answered for a file that was read.
+ghost use Rattle.std.specs.Prelude.{◌≡◌, ◌≤◌, ◌++◌, IfOk, OnOk, length, decimal};
+ghost use Rattle.squirrel.specs.Answering as spec;
+
+use crate::runner::{Trouble, run_proofs};
+use crate::scan::sentences;
+use crate::script::{Lemma, Place, Script, read_script};
+use itoa::Buffer;
+use sq_base::{NoMemory, Seq};
+use sq_edge::Status;
+use std::alloc::Global;
+
+/// How a run is to end, and the text that it is to put.
+#[derive(Drop)]
+pub struct Answer {
+    pub status: Status,
+    pub text: Seq<u8>,
+}
+
+/// The answer for the bytes of a file. The text's buffer is reserved before the first proof is run.
+#[tactic(auto, unfolding(crate::specs::Answering::answer_of))]
+pub fn answer_to(alloc: Global, bytes: &[u8]) -> Result<Answer, NoMemory>
+    requires { length bytes.now ≤ 1048576 }
+    ensures { IfOk result (λ a. (a ≡ spec.answer_of bytes.now) × spec.IsVerdict a.status) }
+{
+    let text = Seq::from_vec(Vec::with_capacity(alloc, 2 * bytes.len() + 256)?);
+    match read_file_form(alloc, bytes)? {
+        None => refused(text, bytes, Trouble::NotBuilt),
+        Some(script) => match run_proofs(alloc, &script)? {
+            None => listed(text, script.lemmas.as_slice()),
+            Some(trouble) => refused(text, bytes, trouble),
+        },
+    }
+}
+
+// What the file holds, where it is of the form.
+#[tactic(auto, unfolding(crate::specs::Answering::form_of))]
+fn read_file_form(alloc: Global, bytes: &[u8]) -> Result<Option<Script>, NoMemory>
+    ensures { IfOk result (λ script. script ≡ spec.form_of bytes.now) }
+{
+    match sentences(alloc, bytes)? {
+        None => Ok(None),
+        Some(sentences) => read_script(alloc, sentences.as_slice()),
+    }
+}
+
+// The answer with a line for each lemma.
+fn listed(mut text: Seq<u8>, lemmas: &[Lemma]) -> Result<Answer, NoMemory>
+    ensures { IfOk result (λ a. (a ≡ spec.listing text lemmas.now) × spec.IsVerdict a.status) }
+{
+    for lemma in lemmas {
+        text.extend_from_slice(b"proved ")?;
+        text.extend_from_slice(lemma.name.as_str().as_bytes())?;
+        text.push(b'\n')?;
+    }
+    Ok(Answer {
+        status: Status::Done,
+        text,
+    })
+}
+
+// The answer with the line of the trouble.
+fn refused(mut text: Seq<u8>, bytes: &[u8], trouble: Trouble) -> Result<Answer, NoMemory>
+    requires { length bytes.now ≤ 1048576 }
+    ensures { IfOk result (λ a. (a ≡ spec.refusal text bytes.now trouble) × spec.IsVerdict a.status) }
+{
+    text.extend_from_slice(b"refused: ")?;
+    add_trouble(&mut text, bytes, trouble)?;
+    text.push(b'\n')?;
+    Ok(Answer {
+        status: Status::Refused,
+        text,
+    })
+}
+
+fn add_trouble(text: &mut Seq<u8>, bytes: &[u8], trouble: Trouble) -> Result<(), NoMemory>
+    requires { length bytes.now ≤ 1048576 }
+    ensures { OnOk result (text.new ≡ text.old ++ spec.trouble_text bytes.now trouble) }
+{
+    match trouble {
+        Trouble::NotBuilt => text.extend_from_slice(b"NotBuilt"),
+        Trouble::Shape(place) => {
+            add_place(text, bytes, place)?;
+            text.extend_from_slice(b"Shape")
+        }
+        Trouble::OpenGoals(count, place) => {
+            add_place(text, bytes, place)?;
+            text.extend_from_slice(b"OpenGoals(")?;
+            add_number(text, count)?;
+            text.push(b')')
+        }
+    }
+}
+
+// A sentence's number and the line of its first token.
+fn add_place(text: &mut Seq<u8>, bytes: &[u8], place: Place) -> Result<(), NoMemory>
+    requires { length bytes.now ≤ 1048576 }
+    ensures { OnOk result (text.new ≡ text.old ++ spec.place_text bytes.now place) }
+{
+    text.extend_from_slice(b"sentence ")?;
+    add_number(text, place.number)?;
+    text.extend_from_slice(b", line ")?;
+    add_number(text, line_of(bytes, place.at))?;
+    text.extend_from_slice(b": ")
+}
+
+fn add_number(text: &mut Seq<u8>, number: usize) -> Result<(), NoMemory>
+    ensures { OnOk result (text.new ≡ text.old ++ decimal number) }
+{
+    let mut buffer = Buffer::new();
+    text.extend_from_slice(buffer.format(number).as_bytes())
+}
+
+// The line of the place, counted from 1.
+fn line_of(bytes: &[u8], at: usize) -> usize
+    requires { length bytes.now ≤ 1048576 }
+    ensures { result ≡ spec.line_of bytes.now at }
+{
+    if at < bytes.len() {
+        newlines(&bytes[..at]) + 1
+    } else {
+        newlines(bytes) + 1
+    }
+}
+
+fn newlines(bytes: &[u8]) -> usize
+    ensures count { result ≡ spec.newlines bytes.now }
+    ensures within { result ≤ length bytes.now }
+{
+    let mut count = 0;
+    'bytes: for b in bytes {
+        if *b == b'\n' {
+            count += 1;
+        }
+    }
+    count
+}
