@@ -1,2 +1,4 @@
 pub mod Choices
 pub mod SystemLaws
+pub mod EnvLaws
+pub mod EnvPushes

@@ -1,95 +1,13 @@
--- Statements and environments as definitions see them, and the functions of a signature.
-use Rattle.std.specs.Prelude.{ℕ, List, [], ◌∷◌, map, Bool, true, false, cond, ◌&&◌, ◌||◌, ◌==◌}
-use Rattle.sq_base.specs.declared.sort.Sort.{Sort}
-use Rattle.sq_base.specs.declared.sort.Sort.TheVariants.{Message, Boolean}
-use Rattle.sq_term.specs.declared.signature.FunDecl.{FunDecl}
-use Rattle.sq_term.specs.declared.signature.FunRole.{FunRole}
-use Rattle.sq_term.specs.declared.signature.FunRole.TheVariants.{Plain, Hash, Sign, Check, Pk}
-use Rattle.sq_term.specs.Systems.{ActionTree, action_trees}
+-- Environments as definitions see them, with their statements and functions.
+use Rattle.std.specs.Prelude.{map, [], ◌∷◌}
+use Rattle.sq_term.specs.Systems.{action_trees}
 use Rattle.sq_system.specs.declared.env.Env.{Env}
-use Rattle.sq_system.specs.declared.env.Stmt.{Stmt}
-use Rattle.sq_system.specs.declared.env.StmtKind.{StmtKind}
-use Rattle.sq_system.specs.Sequents.{SequentTree, sequent_tree}
-use Rattle.sq_system.specs.Typing.{same_sort}
-
--- a statement: its kind, its system, the names of its schema variables and variables, and its starting sequent
-pub record StmtTree : Type 0 where
-  pub kind : StmtKind
-  pub system : ℕ
-  pub schemas : List (List ℕ)
-  pub vars : List (List ℕ)
-  pub start : SequentTree
-
-pub record EnvTree : Type 0 where
-  pub names : List ℕ
-  pub funs : List FunDecl
-  pub systems : List (List ActionTree)
-  pub stmts : List StmtTree
-
-abbrev pub stmt_tree : Stmt → StmtTree
-stmt_tree s = record { kind = s.kind; system = s.system; schemas = s.schemas; vars = s.vars; start = sequent_tree s.start }
+pub use Rattle.sq_system.specs.Statements.{StmtTree, EnvTree, stmt_tree}
+pub use Rattle.sq_system.specs.Functions.{plain_function, builtin_functions}
 
 abbrev pub env_tree : Env → EnvTree
 env_tree e = record { names = e.names; funs = e.funs; systems = map action_trees e.systems; stmts = map stmt_tree e.stmts }
 
--- a function without indices
-abbrev pub plain_function : ℕ → Sort → FunDecl
-plain_function n s = record { idx = 0; args = n; result = s; role = Plain }
-
--- empty, true, false, not, and, or, implies, eq, ite, pair, fst, snd, of_bool, att
-abbrev pub builtin_functions : List FunDecl
-builtin_functions =
-    plain_function 0 Message ∷ plain_function 0 Boolean ∷ plain_function 0 Boolean ∷ plain_function 1 Boolean
-    ∷ plain_function 2 Boolean ∷ plain_function 2 Boolean ∷ plain_function 2 Boolean ∷ plain_function 2 Boolean
-    ∷ plain_function 3 Message ∷ plain_function 2 Message ∷ plain_function 1 Message ∷ plain_function 1 Message
-    ∷ plain_function 1 Message ∷ plain_function 1 Message ∷ []
-
-abbrev pub is_value_sort : Sort → Bool
-is_value_sort s = same_sort s Message || same_sort s Boolean
-
-abbrev pub same_role : FunRole → FunRole → Bool
-same_role Plain Plain = true
-same_role Hash Hash = true
-same_role Sign Sign = true
-same_role Check Check = true
-same_role Pk Pk = true
-same_role _ _ = false
-
--- a function of the role without indices
-abbrev pub is_function : FunDecl → ℕ → Sort → FunRole → Bool
-is_function d n s r = (d.idx == 0) && ((d.args == n) && (same_sort d.result s && same_role d.role r))
-
--- a plain function with a message or a Boolean, or a hash of a message under a key
-abbrev pub stands_alone : FunDecl → Bool
-stands_alone d = (same_role d.role Plain && is_value_sort d.result) || is_function d 2 Message Hash
-
--- what may come next in the list of declared functions
-pub data Next : Type 0 where
-  any_function : Next
-  check_of_signature : Next
-  key_of_signature : Next
-
--- Declared functions: the three of one signature stand one behind the other.
-abbrev pub are_declared : Next → List FunDecl → Bool
-are_declared any_function [] = true
-are_declared check_of_signature [] = false
-are_declared key_of_signature [] = false
-are_declared any_function (d ∷ ds) =
-    cond (same_role d.role Sign)
-    (is_function d 2 Message Sign && are_declared check_of_signature ds)
-    (stands_alone d && are_declared any_function ds)
-are_declared check_of_signature (d ∷ ds) = is_function d 3 Boolean Check && are_declared key_of_signature ds
-are_declared key_of_signature (d ∷ ds) = is_function d 1 Message Pk && are_declared any_function ds
-
-abbrev pub same_function : FunDecl → FunDecl → Bool
-same_function d e = (d.idx == e.idx) && ((d.args == e.args) && (same_sort d.result e.result && same_role d.role e.role))
-
--- the first functions, and the rest declared
-abbrev pub begins_with : List FunDecl → List FunDecl → Bool
-begins_with [] fs = are_declared any_function fs
-begins_with (d ∷ ds) [] = false
-begins_with (d ∷ ds) (f ∷ fs) = same_function d f && begins_with ds fs
-
--- the functions of a signature: the built-in ones, and then the declared ones
-abbrev pub are_functions : List FunDecl → Bool
-are_functions fs = begins_with builtin_functions fs
+-- what every file begins with: the built-in functions, and the system without actions
+abbrev pub without_declarations : EnvTree
+without_declarations = record { names = []; funs = builtin_functions; systems = [] ∷ []; stmts = [] }

@@ -2,6 +2,8 @@ pub mod Sequents
 pub mod Facts
 pub mod Clashes
 pub mod Typing
+pub mod Functions
+pub mod Statements
 pub mod Environments
 pub mod Sizes
 pub mod WellFormed

@@ -8,6 +8,7 @@ use Rattle.sq_term.specs.declared.term.Macro.{Macro}
 use Rattle.sq_term.specs.declared.term.Macro.TheVariants.{Input, Output, Cond, Exec, Frame}
 use Rattle.sq_term.specs.declared.signature.FunDecl.{FunDecl}
 use Rattle.sq_term.specs.Signatures.{takes_boolean}
+use Rattle.sq_term.specs.TreeEquality.{is_same_sort}
 use Rattle.sq_term.specs.Syntax.{TsTree, free, bound, init, pred, action, TermTree, name, fun, macro, schema, diff, le, ts_eq, idx_eq, happens, all, some, find, TermTrees, nil, cons}
 
 -- What a term may speak of: names with their counts of indices, functions, actions of one system with their counts of indices,
@@ -19,17 +20,10 @@ pub record Signature : Type 0 where
   pub schemas : ℕ
   pub vars : List Sort
 
-abbrev pub same_sort : Sort → Sort → Bool
-same_sort Message Message = true
-same_sort Boolean Boolean = true
-same_sort Index Index = true
-same_sort Timestamp Timestamp = true
-same_sort _ _ = false
-
 -- the place of a list has this sort
 abbrev pub has_sort_at : List Sort → ℕ → Sort → Bool
 has_sort_at [] k s = false
-has_sort_at (t ∷ ts) zero s = same_sort t s
+has_sort_at (t ∷ ts) zero s = is_same_sort t s
 has_sort_at (t ∷ ts) (suc k) s = has_sort_at ts k s
 
 -- the place of a list holds this number
@@ -88,21 +82,21 @@ argument_sort f k = cond (takes_boolean f k) Boolean Message
 -- the term has the sort
 abbrev mutual
   pub has_sort : Signature → List Sort → Sort → TermTree → Bool
-  has_sort g bs s (name n is) = same_sort Message s && (has_count_at g.names n (length is) && are_indices g bs is)
+  has_sort g bs s (name n is) = is_same_sort Message s && (has_count_at g.names n (length is) && are_indices g bs is)
   has_sort g bs s (fun f is ts) =
-      same_sort (result_sort g (slice_get g.funs f)) s
+      is_same_sort (result_sort g (slice_get g.funs f)) s
       && (applies g (slice_get g.funs f) (length is) (count_terms ts) && (are_indices g bs is && have_sorts g bs f 0 ts))
-  has_sort g bs s (macro m t) = same_sort (macro_sort m) s && is_timestamp g bs t
-  has_sort g bs s (schema k) = same_sort Message s && nat_lt k g.schemas
+  has_sort g bs s (macro m t) = is_same_sort (macro_sort m) s && is_timestamp g bs t
+  has_sort g bs s (schema k) = is_same_sort Message s && nat_lt k g.schemas
   has_sort g bs s (diff a b) = has_sort g bs s a && has_sort g bs s b
-  has_sort g bs s (le t u) = same_sort Boolean s && (is_timestamp g bs t && is_timestamp g bs u)
-  has_sort g bs s (ts_eq t u) = same_sort Boolean s && (is_timestamp g bs t && is_timestamp g bs u)
-  has_sort g bs s (idx_eq i j) = same_sort Boolean s && (is_index g bs i && is_index g bs j)
-  has_sort g bs s (happens t) = same_sort Boolean s && is_timestamp g bs t
-  has_sort g bs s (all b t) = same_sort Boolean s && (is_binder_sort b && has_sort g (b ∷ bs) Boolean t)
-  has_sort g bs s (some b t) = same_sort Boolean s && (is_binder_sort b && has_sort g (b ∷ bs) Boolean t)
+  has_sort g bs s (le t u) = is_same_sort Boolean s && (is_timestamp g bs t && is_timestamp g bs u)
+  has_sort g bs s (ts_eq t u) = is_same_sort Boolean s && (is_timestamp g bs t && is_timestamp g bs u)
+  has_sort g bs s (idx_eq i j) = is_same_sort Boolean s && (is_index g bs i && is_index g bs j)
+  has_sort g bs s (happens t) = is_same_sort Boolean s && is_timestamp g bs t
+  has_sort g bs s (all b t) = is_same_sort Boolean s && (is_binder_sort b && has_sort g (b ∷ bs) Boolean t)
+  has_sort g bs s (some b t) = is_same_sort Boolean s && (is_binder_sort b && has_sort g (b ∷ bs) Boolean t)
   has_sort g bs s (find c t a b) =
-      same_sort Message s
+      is_same_sort Message s
       && (has_sort g (replicate c Index ++ bs) Boolean t && (has_sort g (replicate c Index ++ bs) Message a && has_sort g bs Message b))
 
   -- the arguments of function f from number k on
@@ -115,8 +109,8 @@ abbrev mutual
   pub binds_indices : TermTree → Bool
   binds_indices (fun f is ts) = bind_indices ts
   binds_indices (diff a b) = binds_indices a && binds_indices b
-  binds_indices (all s t) = same_sort s Index && binds_indices t
-  binds_indices (some s t) = same_sort s Index && binds_indices t
+  binds_indices (all s t) = is_same_sort s Index && binds_indices t
+  binds_indices (some s t) = is_same_sort s Index && binds_indices t
   binds_indices (find c t a b) = binds_indices t && (binds_indices a && binds_indices b)
   binds_indices _ = true
 

@@ -10,7 +10,8 @@ use Rattle.sq_term.specs.Syntax.{TermTree}
 use Rattle.sq_term.specs.Systems.{ActionTree}
 use Rattle.sq_system.specs.declared.env.StmtKind.{StmtKind}
 use Rattle.sq_system.specs.declared.env.StmtKind.TheVariants.{Axiom, Lemma, Equiv}
-use Rattle.sq_system.specs.Environments.{StmtTree, EnvTree, are_functions}
+use Rattle.sq_system.specs.Functions.{are_functions}
+use Rattle.sq_system.specs.Statements.{StmtTree, EnvTree}
 use Rattle.sq_system.specs.Facts.{holds_diff}
 use Rattle.sq_system.specs.Sequents.{Item, item, SequentTree, trace, local, equiv}
 use Rattle.sq_system.specs.Sizes.{fits}
@@ -97,5 +98,5 @@ abbrev pub is_well_sorted : EnvTree → List ActionTree → Bool
 is_well_sorted e actions = list_all (are_bodies e actions) actions
 
 -- what every environment keeps
-abbrev pub is_environment : EnvTree → Bool
+unfoldable pub is_environment : EnvTree → Bool
 is_environment e = are_functions e.funs && (list_all (is_well_sorted e) e.systems && list_all (is_statement e) e.stmts)
