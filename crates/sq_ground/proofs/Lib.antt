@@ -1,4 +1,12 @@
 pub mod Derivations
+pub mod Grounds
+pub mod Kept
+pub mod AlikeTerms
+pub mod Tables
+mod ReaderAction
+pub mod Quantified
+pub mod Joins
+pub mod InstanceLists
 pub mod Propositional
 pub mod Systems
 pub mod Refusals
@@ -7,3 +15,6 @@ pub mod Traces
 pub mod TraceFormulas
 pub mod Usable
 mod RuleCases
+pub mod Sorts
+pub mod Congruence
+pub mod ReplacedMeaning

@@ -1,15 +1,13 @@
 -- What holds before an earlier goal holds before a later one that may use it; so the goals of a file hold one after the other.
-use Rattle.std.proofs.Common.{◌≡◌, refl, sym, ap, ◌∙◌, subst, ℕ, zero, suc, ◌+◌, ◌<◌, ◌≤◌, ◌⊎◌, ⊎_elim, List, [], ◌∷◌, ◌++◌, map, Bool, true, false, cond, arith}
+use Rattle.std.proofs.Common.{◌≡◌, refl, sym, ap, subst, ℕ, zero, suc, ◌+◌, ◌<◌, ◌≤◌, ◌⊎◌, ⊎_elim, List, [], ◌∷◌, ◌++◌, Bool, true, false, cond, arith}
 use Rattle.std.specs.Prelude.{flat_map, get_or, ◌&&◌, ◌||◌, ◌==◌, nat_lt}
 use Rattle.std.proofs.lemmas.Bool.{eqb-true}
 use Rattle.std.proofs.lemmas.Bool.Decides.{nat_tests}
 use Rattle.sq_term.specs.declared.model.Model.{Model}
 use Rattle.sq_term.specs.Lists.{Member, here, there, Each, count}
 use Rattle.sq_term.specs.Syntax.{TermTree}
-use Rattle.sq_term.specs.Systems.{ActionTree}
-use Rattle.sq_term.specs.Translate.{Assignment}
 use Rattle.sq_term.specs.Models.{IsTraceModel}
-use Rattle.sq_term.proofs.BoolTests.{and_split, and_both, number_itself}
+use Rattle.sq_term.proofs.BoolTests.{and_split, and_both}
 use Rattle.sq_term.proofs.Members.{member-append_left, member-append_right}
 use Rattle.sq_system.specs.Sequents.{SequentTree, trace, local, equiv}
 use Rattle.sq_system.specs.Environments.{EnvTree}

@@ -8,3 +8,12 @@ pub mod Usable
 pub mod Theories
 pub mod Laws
 pub mod Answers
+pub mod GroundMeasure
+pub mod Translations
+pub mod Builds
+pub mod Readings
+pub mod Instances
+pub mod Rows
+pub mod Alike
+pub mod Replacing
+pub mod Reader

@@ -1,14 +1,31 @@
 //! Trace models, ground lines and derivations: what it means that a sequent holds at a model.
 #![tactic(auto)]
 
+mod building;
+mod built;
+mod call;
+mod ground_copy;
+mod instances;
+mod instant;
+mod keeping;
 mod laws;
+mod macros;
 mod model;
+mod reading;
+mod replacing;
+mod row;
+mod table;
 #[cfg(test)]
 mod tests;
+#[cfg(test)]
+mod translate_tests;
+mod translation;
 
+pub use call::translate;
 pub use laws::{
     every_system_has_a_model, further_variable_changes_nothing, records_meet_the_table,
     trace_formulas_have_one_truth,
 };
 pub use model::valid_model;
+pub use replacing::{replacing_equals_is_congruent, replacing_replaces_the_meaning};
 pub use sq_term::{Assign, GTerm, Inst, Model, Value};

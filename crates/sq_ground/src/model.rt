@@ -54,7 +54,7 @@ fn may_follow(s: &System, indices: u32, earlier: &[Inst], i: &Inst) -> bool
         && !is_in_conflict(s, indices, i, earlier)
 }
 
-fn is_instance(n: u32, idx: &[u32], i: &Inst) -> bool
+pub fn is_instance(n: u32, idx: &[u32], i: &Inst) -> bool
     ensures { result ≡ Rattle.sq_term.specs.Models.is_instance n idx.now i.now }
 {
     let same = are_same(idx, i.idx.as_slice());
