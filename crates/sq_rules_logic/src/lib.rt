@@ -8,7 +8,10 @@ ghost use Rattle.sq_system.specs.Sequents.{sequent_tree};
 ghost use Rattle.sq_sequent.specs.Logic.{sequent_trees, logic_premises};
 ghost use Rattle.sq_sequent.specs.Soundness.{PremisesSuffice};
 
+mod equations;
 mod propositional;
+#[cfg(test)]
+mod tests;
 
 use sq_base::Seq;
 use sq_sequent::{Env, RuleFault, Sequent, Step};
@@ -34,6 +37,7 @@ pub fn premises(
     }
 }
 
+#[tactic(auto, unfolding(sq_sequent::specs::Logic::logic_row, sq_sequent::specs::Logic::logic_premises))]
 fn row(
     alloc: Global,
     step: &Step,
@@ -45,9 +49,21 @@ fn row(
 {
     match step {
         Step::Hyp(h) => propositional::hyp(alloc, s, *h),
+        Step::True => propositional::truth(alloc, s),
+        Step::Absurd(h) => propositional::absurd(alloc, s, *h),
         Step::Impi => propositional::impi(alloc, s),
+        Step::Noti => propositional::noti(alloc, s),
         Step::Andi => propositional::andi(alloc, s),
+        Step::Orl => propositional::orl(alloc, s),
+        Step::Orr => propositional::orr(alloc, s),
         Step::Ande(h) => propositional::ande(alloc, s, *h),
+        Step::Ore(h) => propositional::ore(alloc, s, *h),
+        Step::Impe(h) => propositional::impe(alloc, s, *h),
+        Step::Note(h) => propositional::note(alloc, s, *h),
+        Step::Drop(h) => propositional::drop_hyp(alloc, s, *h),
+        Step::Trace => equations::trace(alloc, s),
+        Step::Refl => equations::refl(alloc, s),
+        Step::Sym => equations::sym(alloc, s),
         _ => Err(RuleFault::Shape),
     }
 }

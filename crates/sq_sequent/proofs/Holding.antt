@@ -1,15 +1,14 @@
 -- How a sequent holds where its premises do, in the forms that rows share.
-use Rattle.std.proofs.Common.{◌≡◌, ◌⊎◌, inl, inr, refl, sym, subst, ap, List, [], ◌∷◌, ◌++◌, map, Option, Some, None, Bool, true, false, cond}
-use Rattle.sq_base.specs.declared.sort.Sort.{Sort}
+use Rattle.std.proofs.Common.{◌≡◌, ◌⊎◌, inl, inr, sym, subst, List, [], ◌∷◌, ◌++◌, map, Some, Bool, true, false}
 use Rattle.sq_term.specs.Lists.{Member, here, there, Each}
 use Rattle.sq_term.proofs.Members.{each-map, each-push, each_none, each_cons, each_single, member-map}
 use Rattle.sq_term.specs.Syntax.{TermTree}
 use Rattle.sq_term.specs.Ground.{Ground}
 use Rattle.sq_term.specs.Translate.{Assignment, translate}
-use Rattle.sq_system.specs.Sequents.{Item, SequentTree, trace, local, equiv}
-use Rattle.sq_ground.specs.Truth.{value, IsTrueAt}
+use Rattle.sq_system.specs.Sequents.{SequentTree, trace, local, equiv}
+use Rattle.sq_ground.specs.Truth.{IsTrueAt}
 use Rattle.sq_ground.specs.Rules.{Theory, world_at}
-use Rattle.sq_ground.specs.Holding.{sides_of, Fits, claim_of, IsTrueFormula, HoldsAt}
+use Rattle.sq_ground.specs.Holding.{Fits, claim_of, IsTrueFormula, HoldsAt}
 use Rattle.sq_ground.proofs.Propositional.{by_none, by_one, by_two}
 use Rattle.sq_sequent.specs.Views.{hyps_of, goal_of}
 use Rattle.sq_sequent.specs.Premises.{vars_of, asking, assuming}
@@ -50,6 +49,7 @@ module _ (th : Theory) where
 
   -- a further hypothesis that is true anyway
   pub assume_sound : (s : SequentTree) (F : TermTree) → Always s (λ left a v. TrueIn left a v F) → HoldsAt th (assuming s F) → HoldsAt th s
+  unfolding assuming
   assume_sound (trace vars H g) F e p = λ a f h. p a f (each-push H F (IsTrueFormula th a) h (e true a f plain (all_plain a H h)))
   assume_sound (local side vars H g) F e p = λ left m a f.
       by_one th left (claim_of (world_at th left) a (H ++ F ∷ []) g) (claim_of (world_at th left) a H g) (p left m a f)
@@ -57,6 +57,7 @@ module _ (th : Theory) where
   assume_sound (equiv vars H known items) F e p = λ a f h k. p a f (each-push H F (IsTrueFormula th a) h (e true a f plain (all_plain a H h))) k
 
   always_more : (s : SequentTree) (F : TermTree) (P : Bool → Assignment → (Ground → Bool) → Type 0) → Always s P → Always (assuming s F) P
+  unfolding assuming
   always_more (trace vars H g) F P e left a f v h = e left a f v (each-map_front (translate (world_at th left) a []) H F (IsTrueAt v) h)
   always_more (local side vars H g) F P e left a f v h = e left a f v (each-map_front (translate (world_at th left) a []) H F (IsTrueAt v) h)
   always_more (equiv vars H known items) F P e left a f v h = e left a f v (each-map_front (translate (world_at th left) a []) H F (IsTrueAt v) h)
@@ -74,6 +75,7 @@ module _ (th : Theory) where
 
   -- F is asked, and G, which follows with it, is a further hypothesis
   pub cut_sound : (s : SequentTree) (F G : TermTree) → Always s (λ left a v. TrueIn left a v F → TrueIn left a v G) → HoldsAt th (asking s F) → HoldsAt th (assuming s G) → HoldsAt th s
+  unfolding asking assuming
   cut_sound (trace vars H g) F G e p q = λ a f h. q a f (each-push H G (IsTrueFormula th a) h (e true a f plain (all_plain a H h) (p a f h)))
   cut_sound (local side vars H g) F G e p q = λ left m a f.
       by_two th left (claim_of (world_at th left) a H F) (claim_of (world_at th left) a (H ++ G ∷ []) g) (claim_of (world_at th left) a H g) (p left m a f) (q left m a f)
@@ -82,6 +84,7 @@ module _ (th : Theory) where
 
   -- F is asked, which contradicts the hypotheses
   pub contrary_sound : (s : SequentTree) (F : TermTree) → Always s (λ left a v. TrueIn left a v F → false ≡ true) → HoldsAt th (asking s F) → HoldsAt th s
+  unfolding asking
   contrary_sound (trace vars H g) F e p = λ a f h. let x = e true a f plain (all_plain a H h) (p a f h) in absurd (cc)
   contrary_sound (local side vars H g) F e p = λ left m a f.
       by_one th left (claim_of (world_at th left) a H F) (claim_of (world_at th left) a H g) (p left m a f) (λ v x h. let y = e left a f v h (x h) in cc)
@@ -89,6 +92,7 @@ module _ (th : Theory) where
 
   -- two cases, each with its hypothesis
   pub cases_sound : (s : SequentTree) (F G : TermTree) → Always s (λ left a v. TrueIn left a v F ⊎ TrueIn left a v G) → HoldsAt th (assuming s F) → HoldsAt th (assuming s G) → HoldsAt th s
+  unfolding assuming
   cases_sound (trace vars H g) F G e p q = λ a f h.
       elim (e true a f plain (all_plain a H h)) [
         | inl x ↦ p a f (each-push H F (IsTrueFormula th a) h x)
@@ -108,6 +112,7 @@ module _ (th : Theory) where
 
   -- a goal that is true wherever the hypotheses are
   pub goal_sound : (s : SequentTree) (g : TermTree) → goal_of s ≡ Some g → Always s (λ left a v. TrueIn left a v g) → HoldsAt th s
+  unfolding goal_of
   goal_sound (trace vars H c) g e w = λ a f h. let x : c ≡ g = cc in subst (IsTrueFormula th a) (sym x) (w true a f plain (all_plain a H h))
   goal_sound (local side vars H c) g e w = λ left m a f.
       by_none th left (claim_of (world_at th left) a H c) (λ v h. let x : c ≡ g = cc in subst (λ t. TrueIn left a v t) (sym x) (w left a f v h))
@@ -115,6 +120,7 @@ module _ (th : Theory) where
 
   -- a goal that follows from what is asked
   pub asked_sound : (s : SequentTree) (g F : TermTree) → goal_of s ≡ Some g → Always s (λ left a v. TrueIn left a v F → TrueIn left a v g) → HoldsAt th (asking s F) → HoldsAt th s
+  unfolding goal_of asking
   asked_sound (trace vars H c) g F e w p = λ a f h. let x : c ≡ g = cc in subst (IsTrueFormula th a) (sym x) (w true a f plain (all_plain a H h) (p a f h))
   asked_sound (local side vars H c) g F e w p = λ left m a f.
       by_one th left (claim_of (world_at th left) a H F) (claim_of (world_at th left) a H c) (p left m a f)
@@ -124,6 +130,7 @@ module _ (th : Theory) where
   -- a goal that follows from two that are asked
   pub both_asked_sound : (s : SequentTree) (g F G : TermTree) → goal_of s ≡ Some g → Always s (λ left a v. TrueIn left a v F → TrueIn left a v G → TrueIn left a v g)
       → HoldsAt th (asking s F) → HoldsAt th (asking s G) → HoldsAt th s
+  unfolding goal_of asking
   both_asked_sound (trace vars H c) g F G e w p q = λ a f h. let x : c ≡ g = cc in subst (IsTrueFormula th a) (sym x) (w true a f plain (all_plain a H h) (p a f h) (q a f h))
   both_asked_sound (local side vars H c) g F G e w p q = λ left m a f.
       by_two th left (claim_of (world_at th left) a H F) (claim_of (world_at th left) a H G) (claim_of (world_at th left) a H c) (p left m a f) (q left m a f)
@@ -133,6 +140,7 @@ module _ (th : Theory) where
   -- a goal that is true where B follows from A
   pub intro_sound : (s : SequentTree) (g A B : TermTree) → goal_of s ≡ Some g → Always s (λ left a v. (TrueIn left a v A → TrueIn left a v B) → TrueIn left a v g)
       → HoldsAt th (assuming (asking s B) A) → HoldsAt th s
+  unfolding goal_of asking assuming
   intro_sound (trace vars H c) g A B e w = λ p a f h.
       let x : c ≡ g = cc in subst (IsTrueFormula th a) (sym x) (w true a f plain (all_plain a H h) (λ y. p a f (each-push H A (IsTrueFormula th a) h y)))
   intro_sound (local side vars H c) g A B e w = λ p left m a f.

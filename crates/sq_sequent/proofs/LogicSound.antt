@@ -1,80 +1,248 @@
 -- The logic rows keep what holds: where each premise holds, the sequent does.
-use Rattle.std.proofs.Common.{◌≡◌, ℕ, refl, sym, subst, List, [], ◌∷◌, ◌++◌, Option, Some, None, Result, Ok, Err, Bool, true, false, cond, ◌∙◌}
-use Rattle.sq_term.specs.Lists.{Each}
-use Rattle.sq_term.specs.Syntax.{TermTree}
+use Rattle.std.proofs.Common.{◌≡◌, inl, inr, ℕ, ◌==◌, refl, sym, ap, subst, List, [], ◌∷◌, map, Option, Some, None, Ok, Err, Bool, true, false, cond, ◌∙◌}
+use Rattle.std.specs.Prelude.{nat_lt, length}
+use Rattle.sq_base.specs.declared.sort.Sort.{Sort}
+use Rattle.sq_term.specs.declared.term.Side.{Side}
+use Rattle.sq_term.specs.Lists.{Member, Each}
+use Rattle.sq_term.proofs.Members.{member-map, each-map}
+use Rattle.sq_term.specs.Pure.{is_pure}
+use Rattle.sq_term.specs.Syntax.{TermTree, ts_eq, idx_eq}
 use Rattle.sq_term.specs.TreeEquality.{is_same_tree}
+use Rattle.sq_term.specs.TsEquality.{is_same_idx-decides, is_same_ts_tree-decides}
 use Rattle.sq_term.proofs.SameTrees.{is_same_tree-decides}
+use Rattle.sq_term.proofs.BoolTests.{number_itself}
 use Rattle.sq_term.specs.Ground.{Ground}
-use Rattle.sq_term.specs.Translate.{Assignment}
+use Rattle.sq_term.specs.GroundFormulas.{truth_of}
+use Rattle.sq_term.specs.Translate.{Assignment, translate, ts_value, idx_value, is_same_time}
 use Rattle.sq_system.specs.Environments.{EnvTree}
 use Rattle.sq_system.specs.Sequents.{SequentTree, trace, local, equiv}
-use Rattle.sq_ground.specs.Truth.{value}
-use Rattle.sq_ground.specs.Rules.{Theory}
-use Rattle.sq_ground.specs.Holding.{HoldsAt}
+use Rattle.sq_ground.specs.Truth.{IsTrueAt}
+use Rattle.sq_ground.specs.Rules.{Theory, world_at}
+use Rattle.sq_ground.specs.Holding.{claim_of, IsTrueFormula, HoldsAt}
 use Rattle.sq_ground.specs.Theories.{theory_of}
-use Rattle.sq_ground.proofs.Propositional.{if_from, and_from, and_left, and_right}
+use Rattle.sq_ground.proofs.Propositional.{if_from, if_to, not_from, not_to, and_from, and_left, and_right, or_left, or_right, or_cases, by_none}
+use Rattle.sq_ground.proofs.Propositional as ground_rule
 use Rattle.sq_sequent.specs.declared.step.Step.{Step}
 use Rattle.sq_sequent.specs.declared.step.Step.TheVariants as step
-use Rattle.sq_sequent.specs.Views.{Two, no_two, two, hyps_of, goal_of, hyp_of, binary_in}
-use Rattle.sq_sequent.specs.Premises.{asking, assuming}
-use Rattle.sq_sequent.specs.Logic.{hyp_row, impi_row, andi_row, ande_row, logic_row, judged, logic_premises}
 use Rattle.sq_sequent.specs.declared.fault.RuleFault.TheVariants.{TooLarge}
-use Rattle.sq_sequent.specs.Limits.{all_fit}
+use Rattle.sq_system.specs.Sizes.{all_fit}
+use Rattle.sq_sequent.specs.Views.{Two, no_two, two, Equation, no_equation, of_messages, of_times, of_indices, as_equation, hyps_of, goal_of, local_goal_of, hyp_of, binary_in, unary_in, constant_in}
+use Rattle.sq_sequent.specs.Premises.{falsity, equality, asking, assuming, with_hyps, without, pure_ones, pure_or_false}
+use Rattle.sq_sequent.specs.Logic.{closing_row, hyp_row, impi_row, noti_row, andi_row, orl_row, orr_row, ande_row, ore_row, impe_row, note_row, drop_row, trace_row, is_reflexive, refl_row, sym_row, logic_row, within_limits, judged, logic_premises}
 use Rattle.sq_sequent.specs.Soundness.{PremisesSuffice}
-use Rattle.sq_sequent.proofs.Inversion.{binary_tree, binary_in_is, get_member}
-use Rattle.sq_sequent.proofs.Holding.{first_of, second_of, AllTrueIn, TrueIn, assume_both_sound, goal_sound, both_asked_sound, intro_sound, hyp_true}
+use Rattle.sq_sequent.proofs.Inversion.{binary_tree, unary_tree, binary_in_is, unary_in_is, constant_in_is, equation_is_of_messages, equation_is_of_times, equation_is_of_indices, get_member, member-without, member-pure}
+use Rattle.sq_sequent.proofs.Purity.{pure_alone}
+use Rattle.sq_sequent.proofs.EqualityRules as equals
+use Rattle.sq_sequent.proofs.Holding.{first_of, second_of, AllTrueIn, TrueIn, assume_both_sound, absurd_sound, cut_sound, contrary_sound, cases_sound, goal_sound, asked_sound, both_asked_sound, intro_sound, hyp_true}
+
+same_time : (t : Option ℕ) → is_same_time t t ≡ true
+same_time (Some p) = number_itself p
+same_time None = refl
+
+true_of : (b : Bool) (v : Ground → Bool) → b ≡ true → IsTrueAt v (truth_of b)
+true_of true v e = refl
+true_of false v e = absurd (cc)
 
 module _ (th : Theory) where
-  -- the part of a row's statement that says that it keeps what holds
+  -- the row keeps what holds
   abbrev pub Keeps : SequentTree → Option (List SequentTree) → Type 0
   Keeps s row = (ps : List SequentTree) → row ≡ Some ps → Each (HoldsAt th) ps → HoldsAt th s
 
   no_row : (s : SequentTree) → Keeps s None
   no_row s ps e h = absurd (cc)
 
+  closing_sound : (s : SequentTree) (b : Bool) → (b ≡ true → HoldsAt th s) → Keeps s (closing_row b)
+  closing_sound s true h ps e p = h refl
+  closing_sound s false h ps e p = absurd (cc)
+
   hyp_sound : (s : SequentTree) (g h : Option TermTree) (k : ℕ) → goal_of s ≡ g → hyp_of s k ≡ h → Keeps s (hyp_row g h)
-  hyp_sound s (Some g) (Some h) k eg eh ps e p = go (is_same_tree g h) refl e
-    where
-      go : (b : Bool) → is_same_tree g h ≡ b → cond b (Some []) None ≡ Some ps → HoldsAt th s
-      go true q f =
-          let x : g ≡ h = (is_same_tree-decides g h).0 q in
-          goal_sound th s g eg (λ left a fits v all. subst (λ t. TrueIn th left a v t) (sym x) (hyp_true th (hyps_of s) h (get_member (hyps_of s) k h eh) left a v all))
-      go false q f = let z : None ≡ Some ps = f in absurd (cc)
-  hyp_sound s None h k eg eh ps e p = absurd (cc)
-  hyp_sound s (Some g) None k eg eh ps e p = absurd (cc)
+  unfolding hyp_of
+  hyp_sound s (Some g) (Some h) k eg eh = closing_sound s (is_same_tree g h)
+      (λ q. let x : g ≡ h = (is_same_tree-decides g h).0 q in
+      goal_sound th s g eg (λ left a fits v all. subst (λ t. TrueIn th left a v t) (sym x) (hyp_true th (hyps_of s) h (get_member (hyps_of s) k h eh) left a v all)))
+  hyp_sound s None h k eg eh = no_row s
+  hyp_sound s (Some g) None k eg eh = no_row s
+
+  true_sound : (s : SequentTree) → Keeps s (closing_row (constant_in 1 (goal_of s)))
+  true_sound s = closing_sound s (constant_in 1 (goal_of s)) (λ q. goal_sound th s _ (constant_in_is 1 (goal_of s) q) (λ left a f v all. refl))
+
+  -- hypothesis k is true where all are
+  at_hyp : (s : SequentTree) (k : ℕ) (h : TermTree) → hyp_of s k ≡ Some h → (left : Bool) (a : Assignment) (v : Ground → Bool) → AllTrueIn th left a v (hyps_of s) → TrueIn th left a v h
+  unfolding hyp_of
+  at_hyp s k h e left a v all = hyp_true th (hyps_of s) h (get_member (hyps_of s) k h e) left a v all
+
+  absurd_row_sound : (s : SequentTree) (k : ℕ) → Keeps s (closing_row (constant_in 2 (hyp_of s k)))
+  absurd_row_sound s k = closing_sound s (constant_in 2 (hyp_of s k)) (λ q. absurd_sound th s (λ left a f v all. at_hyp s k falsity (constant_in_is 2 (hyp_of s k) q) left a v all))
 
   impi_sound : (s : SequentTree) (o : Two) → binary_in 6 (goal_of s) ≡ o → Keeps s (impi_row s o)
-  impi_sound s no_two q ps e h = absurd (cc)
-  impi_sound s (two a b) q ps e h =
+  impi_sound s no_two q = no_row s
+  impi_sound s (two a b) q = λ ps e h.
       intro_sound th s (binary_tree 6 a b) a b (binary_in_is 6 (goal_of s) a b q) (λ left w f v all i. if_from _ _ i)
       (first_of (assuming (asking s b) a) [] ps (HoldsAt th) e h)
 
+  noti_sound : (s : SequentTree) (o : Option TermTree) → unary_in 3 (goal_of s) ≡ o → Keeps s (noti_row s o)
+  noti_sound s None q = no_row s
+  noti_sound s (Some a) q = λ ps e h.
+      intro_sound th s (unary_tree 3 a) a falsity (unary_in_is 3 (goal_of s) a q) (λ left w f v all i. not_from _ i)
+      (first_of (assuming (asking s falsity) a) [] ps (HoldsAt th) e h)
+
   andi_sound : (s : SequentTree) (o : Two) → binary_in 4 (goal_of s) ≡ o → Keeps s (andi_row s o)
-  andi_sound s no_two q ps e h = absurd (cc)
-  andi_sound s (two a b) q ps e h =
+  andi_sound s no_two q = no_row s
+  andi_sound s (two a b) q = λ ps e h.
       both_asked_sound th s (binary_tree 4 a b) a b (binary_in_is 4 (goal_of s) a b q) (λ left w f v all i j. and_from _ _ i j)
       (first_of (asking s a) (asking s b ∷ []) ps (HoldsAt th) e h) (second_of (asking s a) (asking s b) [] ps (HoldsAt th) e h)
 
-  -- the first part of a hypothesis, and the second one under it
+  orl_sound : (s : SequentTree) (o : Two) → binary_in 5 (goal_of s) ≡ o → Keeps s (orl_row s o)
+  orl_sound s no_two q = no_row s
+  orl_sound s (two a b) q = λ ps e h.
+      asked_sound th s (binary_tree 5 a b) a (binary_in_is 5 (goal_of s) a b q) (λ left w f v all i. or_left _ _ i) (first_of (asking s a) [] ps (HoldsAt th) e h)
+
+  orr_sound : (s : SequentTree) (o : Two) → binary_in 5 (goal_of s) ≡ o → Keeps s (orr_row s o)
+  orr_sound s no_two q = no_row s
+  orr_sound s (two a b) q = λ ps e h.
+      asked_sound th s (binary_tree 5 a b) b (binary_in_is 5 (goal_of s) a b q) (λ left w f v all i. or_right _ _ i) (first_of (asking s b) [] ps (HoldsAt th) e h)
+
   ande_sound : (s : SequentTree) (k : ℕ) (o : Two) → binary_in 4 (hyp_of s k) ≡ o → Keeps s (ande_row s o)
-  ande_sound s k no_two q ps e h = absurd (cc)
-  ande_sound s k (two a b) q ps e h =
-      assume_both_sound th s a b (λ left w f v all. and_left _ _ (whole left w v all)) (λ left w f v all. and_right _ _ (whole left w v all))
+  ande_sound s k no_two q = no_row s
+  ande_sound s k (two a b) q = λ ps e h.
+      assume_both_sound th s a b
+      (λ left w f v all. and_left _ _ (at_hyp s k (binary_tree 4 a b) (binary_in_is 4 (hyp_of s k) a b q) left w v all))
+      (λ left w f v all. and_right _ _ (at_hyp s k (binary_tree 4 a b) (binary_in_is 4 (hyp_of s k) a b q) left w v all))
       (first_of (assuming (assuming s a) b) [] ps (HoldsAt th) e h)
+
+  ore_sound : (s : SequentTree) (k : ℕ) (o : Two) → binary_in 5 (hyp_of s k) ≡ o → Keeps s (ore_row s o)
+  ore_sound s k no_two q = no_row s
+  ore_sound s k (two a b) q = λ ps e h.
+      cases_sound th s a b
+      (λ left w f v all. or_cases _ _ (at_hyp s k (binary_tree 5 a b) (binary_in_is 5 (hyp_of s k) a b q) left w v all) (λ i. inl i) (λ j. inr j))
+      (first_of (assuming s a) (assuming s b ∷ []) ps (HoldsAt th) e h) (second_of (assuming s a) (assuming s b) [] ps (HoldsAt th) e h)
+
+  impe_sound : (s : SequentTree) (k : ℕ) (o : Two) → binary_in 6 (hyp_of s k) ≡ o → Keeps s (impe_row s o)
+  impe_sound s k no_two q = no_row s
+  impe_sound s k (two a b) q = λ ps e h.
+      cut_sound th s a b
+      (λ left w f v all i. if_to _ _ (at_hyp s k (binary_tree 6 a b) (binary_in_is 6 (hyp_of s k) a b q) left w v all) i)
+      (first_of (asking s a) (assuming s b ∷ []) ps (HoldsAt th) e h) (second_of (asking s a) (assuming s b) [] ps (HoldsAt th) e h)
+
+  note_sound : (s : SequentTree) (k : ℕ) (o : Option TermTree) → unary_in 3 (hyp_of s k) ≡ o → Keeps s (note_row s o)
+  note_sound s k None q = no_row s
+  note_sound s k (Some a) q = λ ps e h.
+      contrary_sound th s a
+      (λ left w f v all i. not_to _ (at_hyp s k (unary_tree 3 a) (unary_in_is 3 (hyp_of s k) a q) left w v all) i)
+      (first_of (asking s a) [] ps (HoldsAt th) e h)
+
+  -- fewer hypotheses
+  fewer_sound : (s : SequentTree) (G : List TermTree) → Each (Member (hyps_of s)) G → HoldsAt th (with_hyps G s) → HoldsAt th s
+  unfolding with_hyps
+  fewer_sound (trace vars H g) G sub p = λ a f h. p a f (λ x i. h x (sub x i))
+  fewer_sound (local side vars H g) G sub p = λ left m a f.
+      ground_rule.drop th left (map (translate (world_at th left) a []) G) (map (translate (world_at th left) a []) H) (translate (world_at th left) a [] g)
+      (each-map (translate (world_at th left) a []) G (Member (map (translate (world_at th left) a []) H)) (λ x i. member-map (translate (world_at th left) a []) H x (sub x i)))
+      (p left m a f)
+  fewer_sound (equiv vars H known items) G sub p = λ a f h k. p a f (λ x i. h x (sub x i)) k
+
+  drop_sound : (s : SequentTree) (k : ℕ) → Keeps s (drop_row s k)
+  drop_sound s k = go (nat_lt k (length (hyps_of s)))
     where
-      whole : (left : Bool) (w : Assignment) (v : Ground → Bool) → AllTrueIn th left w v (hyps_of s) → TrueIn th left w v (binary_tree 4 a b)
-      whole left w v all = hyp_true th (hyps_of s) (binary_tree 4 a b) (get_member (hyps_of s) k (binary_tree 4 a b) (binary_in_is 4 (hyp_of s k) a b q)) left w v all
+      go : (b : Bool) → Keeps s (cond b (Some (with_hyps (without (hyps_of s) k) s ∷ [])) None)
+      go true = λ ps e h. fewer_sound s (without (hyps_of s) k) (λ x i. member-without (hyps_of s) k x i) (first_of (with_hyps (without (hyps_of s) k) s) [] ps (HoldsAt th) e h)
+      go false = no_row s
+
+  -- a trace formula is true on a side and under a valuation where it is plainly true, and the other way round
+  plainly : (left : Bool) (a : Assignment) (v : Ground → Bool) (t : TermTree) → is_pure t ≡ true → TrueIn th left a v t → IsTrueFormula th a t
+  plainly left a v t p h = sym (pure_alone th a left true v (λ u. false) t [] p) ∙ h
+
+  from_plain : (left : Bool) (a : Assignment) (v : Ground → Bool) (t : TermTree) → is_pure t ≡ true → IsTrueFormula th a t → TrueIn th left a v t
+  from_plain left a v t p h = pure_alone th a left true v (λ u. false) t [] p ∙ h
+
+  pure_hyps : (H : List TermTree) (left : Bool) (a : Assignment) (v : Ground → Bool) → AllTrueIn th left a v H → Each (IsTrueFormula th a) (pure_ones H)
+  pure_hyps H left a v all t i = let m : Member H t × (is_pure t ≡ true) = member-pure H t i in plainly left a v t m.1 (hyp_true th H t m.0 left a v all)
+
+  pure_goal : (g : TermTree) (left : Bool) (a : Assignment) (v : Ground → Bool) → IsTrueFormula th a (pure_or_false g) → TrueIn th left a v g
+  pure_goal g left a v = go (is_pure g) refl
+    where
+      go : (b : Bool) → is_pure g ≡ b → IsTrueFormula th a (cond b g falsity) → TrueIn th left a v g
+      go true e h = from_plain left a v g e h
+      go false e h = let x : false ≡ true = h in absurd (cc)
+
+  trace_sound : (s : SequentTree) → Keeps s (trace_row s)
+  trace_sound (trace vars H g) = no_row (trace vars H g)
+  trace_sound (local side vars H g) = λ ps e h left m a f.
+      let p = first_of (trace vars (pure_ones H) (pure_or_false g)) [] ps (HoldsAt th) e h in
+      by_none th left (claim_of (world_at th left) a H g) (λ v all. pure_goal g left a v (p a f (pure_hyps H left a v all)))
+  trace_sound (equiv vars H known items) = λ ps e h a f all k.
+      let p = first_of (trace vars (pure_ones H) falsity) [] ps (HoldsAt th) e h in
+      let x : false ≡ true = p a f (λ t i. all t (member-pure H t i).0) in absurd (cc)
+
+  -- an equation of one timestamp or one index
+  reflexive_true : (s : SequentTree) (g : TermTree) → goal_of s ≡ Some g → (x : Equation) → as_equation g ≡ x → is_reflexive false x ≡ true → HoldsAt th s
+  reflexive_true s g eg no_equation e q = absurd (cc)
+  reflexive_true s g eg (of_messages u v) e q = absurd (cc)
+  reflexive_true s g eg (of_times t u) e q =
+      let x : t ≡ u = (is_same_ts_tree-decides t u).0 q in
+      let y : g ≡ ts_eq t t = equation_is_of_times g t u e ∙ ap (ts_eq t) (sym x) in
+      goal_sound th s (ts_eq t t) (eg ∙ ap Some y) (λ left a f v all. true_of (is_same_time (ts_value th.times a [] t) (ts_value th.times a [] t)) v (same_time (ts_value th.times a [] t)))
+  reflexive_true s g eg (of_indices i j) e q =
+      let x : i ≡ j = (is_same_idx-decides i j).0 q in
+      let y : g ≡ idx_eq i i = equation_is_of_indices g i j e ∙ ap (idx_eq i) (sym x) in
+      goal_sound th s (idx_eq i i) (eg ∙ ap Some y) (λ left a f v all. true_of (idx_value a [] i == idx_value a [] i) v (number_itself (idx_value a [] i)))
+
+  reflexive_message : (side : Side) (vars : List Sort) (H : List TermTree) (g : TermTree) (x : Equation) → as_equation g ≡ x → is_reflexive true x ≡ true → HoldsAt th (local side vars H g)
+  unfolding goal_of
+  reflexive_message side vars H g (of_messages u v) e q = λ left m a f.
+      let x : u ≡ v = (is_same_tree-decides u v).0 q in
+      let y : g ≡ equality u u = equation_is_of_messages g u v e ∙ ap (equality u) (sym x) in
+      subst (λ t. ground_rule.Proved th left (map (translate (world_at th left) a []) H) (translate (world_at th left) a [] t)) (sym y)
+      (equals.reflexive th left (map (translate (world_at th left) a []) H) (translate (world_at th left) a [] u))
+  reflexive_message side vars H g no_equation e q = absurd (cc)
+  reflexive_message side vars H g (of_times t u) e q = reflexive_true (local side vars H g) g refl (of_times t u) e q
+  reflexive_message side vars H g (of_indices i j) e q = reflexive_true (local side vars H g) g refl (of_indices i j) e q
+
+  refl_sound : (s : SequentTree) → Keeps s (refl_row s)
+  unfolding goal_of
+  refl_sound (trace vars H g) = closing_sound (trace vars H g) (is_reflexive false (as_equation g)) (λ q. reflexive_true (trace vars H g) g refl (as_equation g) refl q)
+  refl_sound (local side vars H g) = closing_sound (local side vars H g) (is_reflexive true (as_equation g)) (λ q. reflexive_message side vars H g (as_equation g) refl q)
+  refl_sound (equiv vars H known items) = no_row (equiv vars H known items)
+
+  sym_local : (side : Side) (vars : List Sort) (H : List TermTree) (g u v : TermTree) → g ≡ equality u v → HoldsAt th (asking (local side vars H g) (equality v u)) → HoldsAt th (local side vars H g)
+  unfolding asking
+  sym_local side vars H g u v y p = λ left m a f.
+      subst (λ t. ground_rule.Proved th left (map (translate (world_at th left) a []) H) (translate (world_at th left) a [] t)) (sym y)
+      (equals.symmetric th left (map (translate (world_at th left) a []) H) (translate (world_at th left) a [] u) (translate (world_at th left) a [] v) (p left m a f))
+
+  sym_sound : (s : SequentTree) (o : Two) → binary_in 7 (local_goal_of s) ≡ o → Keeps s (sym_row s o)
+  unfolding local_goal_of
+  sym_sound s no_two q = no_row s
+  sym_sound (local side vars H g) (two u v) q = λ ps e h.
+      let y : Some g ≡ Some (binary_tree 7 u v) = binary_in_is 7 (Some g) u v q in
+      sym_local side vars H g u v (cc) (first_of (asking (local side vars H g) (equality v u)) [] ps (HoldsAt th) e h)
+  sym_sound (trace vars H g) (two u v) q = let y : None ≡ Some (binary_tree 7 u v) = binary_in_is 7 None u v q in absurd (cc)
+  sym_sound (equiv vars H known items) (two u v) q = let y : None ≡ Some (binary_tree 7 u v) = binary_in_is 7 None u v q in absurd (cc)
 
   -- where each premise of a step holds, the sequent does
   pub logic_row_sound : (x : Step) (s : SequentTree) (env : EnvTree) (goal : ℕ) → Keeps s (logic_row x s env goal)
+  unfolding logic_row
   logic_row_sound (step.Hyp h) s env goal = hyp_sound s (goal_of s) (hyp_of s h) h refl refl
+  logic_row_sound step.True s env goal = true_sound s
+  logic_row_sound (step.Absurd h) s env goal = absurd_row_sound s h
   logic_row_sound step.Impi s env goal = impi_sound s (binary_in 6 (goal_of s)) refl
+  logic_row_sound step.Noti s env goal = noti_sound s (unary_in 3 (goal_of s)) refl
   logic_row_sound step.Andi s env goal = andi_sound s (binary_in 4 (goal_of s)) refl
+  logic_row_sound step.Orl s env goal = orl_sound s (binary_in 5 (goal_of s)) refl
+  logic_row_sound step.Orr s env goal = orr_sound s (binary_in 5 (goal_of s)) refl
   logic_row_sound (step.Ande h) s env goal = ande_sound s h (binary_in 4 (hyp_of s h)) refl
+  logic_row_sound (step.Ore h) s env goal = ore_sound s h (binary_in 5 (hyp_of s h)) refl
+  logic_row_sound (step.Impe h) s env goal = impe_sound s h (binary_in 6 (hyp_of s h)) refl
+  logic_row_sound (step.Note h) s env goal = note_sound s h (unary_in 3 (hyp_of s h)) refl
+  logic_row_sound (step.Drop h) s env goal = drop_sound s h
+  logic_row_sound step.Trace s env goal = trace_sound s
+  logic_row_sound step.Refl s env goal = refl_sound s
+  logic_row_sound step.Sym s env goal = sym_sound s (binary_in 7 (local_goal_of s)) refl
   logic_row_sound _ s env goal = no_row s
 
 -- the same of the calculus with its limits, in the words of a clause
 pub logic_sound : (x : Step) (s : SequentTree) (env : EnvTree) (g : ℕ) (ps : List SequentTree) → logic_premises x s env g ≡ Ok ps → PremisesSuffice env g ps s
+unfolding within_limits logic_premises
 logic_sound x s env g ps e m is_trace earlier h = go (logic_row x s env g) refl e
   where
     go : (o : Option (List SequentTree)) → logic_row x s env g ≡ o → judged o ≡ Ok ps → HoldsAt (theory_of env g m) s

@@ -1,4 +1,3 @@
-pub mod Limits
 pub mod Views
 pub mod Premises
 pub mod Logic

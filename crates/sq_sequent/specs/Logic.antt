@@ -1,24 +1,29 @@
 -- The logic rows of the calculus: from a step and a sequent to premises.
-use Rattle.std.specs.Prelude.{ℕ, Bool, true, false, cond, List, [], ◌∷◌, map, Option, Some, None, Result, Ok, Err}
+use Rattle.std.specs.Prelude.{ℕ, nat_lt, length, Bool, true, false, cond, ◌&&◌, List, [], ◌∷◌, map, Option, Some, None, Result, Ok, Err}
 use Rattle.sq_term.specs.Syntax.{TermTree}
 use Rattle.sq_term.specs.TreeEquality.{is_same_tree}
+use Rattle.sq_term.specs.TsEquality.{is_same_idx, is_same_ts_tree}
 use Rattle.sq_system.specs.declared.sequent.Sequent.{Sequent}
 use Rattle.sq_system.specs.Environments.{EnvTree}
-use Rattle.sq_system.specs.Sequents.{SequentTree, sequent_tree}
+use Rattle.sq_system.specs.Sequents.{SequentTree, trace, local, equiv, sequent_tree}
 use Rattle.sq_sequent.specs.declared.fault.RuleFault.{RuleFault}
 use Rattle.sq_sequent.specs.declared.fault.RuleFault.TheVariants.{Shape, TooLarge}
 use Rattle.sq_sequent.specs.declared.step.Step.{Step}
 use Rattle.sq_sequent.specs.declared.step.Step.TheVariants as step
-use Rattle.sq_sequent.specs.Limits.{all_fit}
-use Rattle.sq_sequent.specs.Views.{Two, no_two, two, hyp_of, goal_of, binary_in}
-use Rattle.sq_sequent.specs.Premises.{asking, assuming}
+use Rattle.sq_system.specs.Sizes.{all_fit}
+use Rattle.sq_sequent.specs.Views.{Two, no_two, two, Equation, no_equation, of_messages, of_times, of_indices, as_equation, hyps_of, hyp_of, goal_of, local_goal_of, binary_in, unary_in, constant_in}
+use Rattle.sq_sequent.specs.Premises.{falsity, equality, asking, assuming, with_hyps, without, pure_ones, pure_or_false}
 
 abbrev pub sequent_trees : List Sequent → List SequentTree
 sequent_trees ss = map sequent_tree ss
 
+-- a row without premises
+abbrev pub closing_row : Bool → Option (List SequentTree)
+closing_row applies = cond applies (Some []) None
+
 -- hyp: the goal is the hypothesis
 abbrev pub hyp_row : Option TermTree → Option TermTree → Option (List SequentTree)
-hyp_row (Some g) (Some h) = cond (is_same_tree g h) (Some []) None
+hyp_row (Some g) (Some h) = closing_row (is_same_tree g h)
 hyp_row _ _ = None
 
 -- impi: the goal is `a => b`
@@ -26,25 +31,93 @@ abbrev pub impi_row : SequentTree → Two → Option (List SequentTree)
 impi_row s no_two = None
 impi_row s (two a b) = Some (assuming (asking s b) a ∷ [])
 
+-- noti: the goal is `not(a)`
+abbrev pub noti_row : SequentTree → Option TermTree → Option (List SequentTree)
+noti_row s None = None
+noti_row s (Some a) = Some (assuming (asking s falsity) a ∷ [])
+
 -- andi: the goal is `a && b`
 abbrev pub andi_row : SequentTree → Two → Option (List SequentTree)
 andi_row s no_two = None
 andi_row s (two a b) = Some (asking s a ∷ asking s b ∷ [])
+
+-- orl and orr: the goal is `a || b`
+abbrev pub orl_row : SequentTree → Two → Option (List SequentTree)
+orl_row s no_two = None
+orl_row s (two a b) = Some (asking s a ∷ [])
+
+abbrev pub orr_row : SequentTree → Two → Option (List SequentTree)
+orr_row s no_two = None
+orr_row s (two a b) = Some (asking s b ∷ [])
 
 -- ande: the hypothesis is `a && b`
 abbrev pub ande_row : SequentTree → Two → Option (List SequentTree)
 ande_row s no_two = None
 ande_row s (two a b) = Some (assuming (assuming s a) b ∷ [])
 
+-- ore: the hypothesis is `a || b`
+abbrev pub ore_row : SequentTree → Two → Option (List SequentTree)
+ore_row s no_two = None
+ore_row s (two a b) = Some (assuming s a ∷ assuming s b ∷ [])
+
+-- impe: the hypothesis is `a => b`
+abbrev pub impe_row : SequentTree → Two → Option (List SequentTree)
+impe_row s no_two = None
+impe_row s (two a b) = Some (asking s a ∷ assuming s b ∷ [])
+
+-- note: the hypothesis is `not(a)`
+abbrev pub note_row : SequentTree → Option TermTree → Option (List SequentTree)
+note_row s None = None
+note_row s (Some a) = Some (asking s a ∷ [])
+
+-- drop: of a hypothesis
+abbrev pub drop_row : SequentTree → ℕ → Option (List SequentTree)
+drop_row s h = cond (nat_lt h (length (hyps_of s))) (Some (with_hyps (without (hyps_of s) h) s ∷ [])) None
+
+-- trace: what the sequent says of the trace alone
+abbrev pub trace_row : SequentTree → Option (List SequentTree)
+trace_row (trace vars hyps g) = None
+trace_row (local side vars hyps g) = Some (trace vars (pure_ones hyps) (pure_or_false g) ∷ [])
+trace_row (equiv vars hyps known items) = Some (trace vars (pure_ones hyps) falsity ∷ [])
+
+-- refl: the goal is `u = u`. No message equation is a trace formula.
+abbrev pub is_reflexive : Bool → Equation → Bool
+is_reflexive messages no_equation = false
+is_reflexive messages (of_messages a b) = messages && is_same_tree a b
+is_reflexive messages (of_times t u) = is_same_ts_tree t u
+is_reflexive messages (of_indices i j) = is_same_idx i j
+
+abbrev pub refl_row : SequentTree → Option (List SequentTree)
+refl_row (trace vars hyps g) = closing_row (is_reflexive false (as_equation g))
+refl_row (local side vars hyps g) = closing_row (is_reflexive true (as_equation g))
+refl_row (equiv vars hyps known items) = None
+
+-- sym: the goal is a message equation of a local sequent
+abbrev pub sym_row : SequentTree → Two → Option (List SequentTree)
+sym_row s no_two = None
+sym_row s (two u v) = Some (asking s (equality v u) ∷ [])
+
 -- the premises of a step, where its row applies
-abbrev pub logic_row : Step → SequentTree → EnvTree → ℕ → Option (List SequentTree)
+unfoldable pub logic_row : Step → SequentTree → EnvTree → ℕ → Option (List SequentTree)
 logic_row (step.Hyp h) s env goal = hyp_row (goal_of s) (hyp_of s h)
+logic_row step.True s env goal = closing_row (constant_in 1 (goal_of s))
+logic_row (step.Absurd h) s env goal = closing_row (constant_in 2 (hyp_of s h))
 logic_row step.Impi s env goal = impi_row s (binary_in 6 (goal_of s))
+logic_row step.Noti s env goal = noti_row s (unary_in 3 (goal_of s))
 logic_row step.Andi s env goal = andi_row s (binary_in 4 (goal_of s))
+logic_row step.Orl s env goal = orl_row s (binary_in 5 (goal_of s))
+logic_row step.Orr s env goal = orr_row s (binary_in 5 (goal_of s))
 logic_row (step.Ande h) s env goal = ande_row s (binary_in 4 (hyp_of s h))
+logic_row (step.Ore h) s env goal = ore_row s (binary_in 5 (hyp_of s h))
+logic_row (step.Impe h) s env goal = impe_row s (binary_in 6 (hyp_of s h))
+logic_row (step.Note h) s env goal = note_row s (unary_in 3 (hyp_of s h))
+logic_row (step.Drop h) s env goal = drop_row s h
+logic_row step.Trace s env goal = trace_row s
+logic_row step.Refl s env goal = refl_row s
+logic_row step.Sym s env goal = sym_row s (binary_in 7 (local_goal_of s))
 logic_row _ s env goal = None
 
-abbrev pub within_limits : List SequentTree → Result (List SequentTree) RuleFault
+unfoldable pub within_limits : List SequentTree → Result (List SequentTree) RuleFault
 within_limits ps = cond (all_fit ps) (Ok ps) (Err TooLarge)
 
 -- no premises is the reason Shape, a premise past the limits the reason TooLarge
@@ -53,5 +126,5 @@ judged None = Err Shape
 judged (Some ps) = within_limits ps
 
 -- the calculus on its logic rows: premises, or the first reason why there are none
-abbrev pub logic_premises : Step → SequentTree → EnvTree → ℕ → Result (List SequentTree) RuleFault
+unfoldable pub logic_premises : Step → SequentTree → EnvTree → ℕ → Result (List SequentTree) RuleFault
 logic_premises step s env goal = judged (logic_row step s env goal)

@@ -1,8 +1,25 @@
 -- The premises of rows, made from the sequent that they are to show.
-use Rattle.std.specs.Prelude.{List, [], ◌∷◌, ◌++◌}
+use Rattle.std.specs.Prelude.{ℕ, zero, suc, List, [], ◌∷◌, ◌++◌, cond}
 use Rattle.sq_base.specs.declared.sort.Sort.{Sort}
-use Rattle.sq_term.specs.Syntax.{TermTree}
+use Rattle.sq_term.specs.Pure.{is_pure}
+use Rattle.sq_term.specs.Syntax.{TermTree, fun, nil, cons}
 use Rattle.sq_system.specs.Sequents.{SequentTree, trace, local, equiv}
+
+-- formulas
+abbrev pub falsity : TermTree
+falsity = fun 2 [] nil
+
+abbrev pub negation : TermTree → TermTree
+negation a = fun 3 [] (cons a nil)
+
+abbrev pub conjunction : TermTree → TermTree → TermTree
+conjunction a b = fun 4 [] (cons a (cons b nil))
+
+abbrev pub implication : TermTree → TermTree → TermTree
+implication a b = fun 6 [] (cons a (cons b nil))
+
+abbrev pub equality : TermTree → TermTree → TermTree
+equality a b = fun 7 [] (cons a (cons b nil))
 
 -- the sorts of the variables
 abbrev pub vars_of : SequentTree → List Sort
@@ -11,13 +28,33 @@ vars_of (local side vars hyps goal) = vars
 vars_of (equiv vars hyps known items) = vars
 
 -- `H : g`: the same hypotheses and another goal. Of an equivalence it is asked as a Trace sequent.
-abbrev pub asking : SequentTree → TermTree → SequentTree
+unfoldable pub asking : SequentTree → TermTree → SequentTree
 asking (trace vars hyps goal) g = trace vars hyps g
 asking (local side vars hyps goal) g = local side vars hyps g
 asking (equiv vars hyps known items) g = trace vars hyps g
 
 -- `H + F : g`: one more hypothesis
-abbrev pub assuming : SequentTree → TermTree → SequentTree
+unfoldable pub assuming : SequentTree → TermTree → SequentTree
 assuming (trace vars hyps goal) f = trace vars (hyps ++ f ∷ []) goal
 assuming (local side vars hyps goal) f = local side vars (hyps ++ f ∷ []) goal
 assuming (equiv vars hyps known items) f = equiv vars (hyps ++ f ∷ []) known items
+
+-- other hypotheses
+unfoldable pub with_hyps : List TermTree → SequentTree → SequentTree
+with_hyps hyps (trace vars old goal) = trace vars hyps goal
+with_hyps hyps (local side vars old goal) = local side vars hyps goal
+with_hyps hyps (equiv vars old known items) = equiv vars hyps known items
+
+-- a list without its element k
+abbrev pub without : {A : Type 0} → List A → ℕ → List A
+without [] k = []
+without (x ∷ xs) zero = xs
+without (x ∷ xs) (suc k) = x ∷ without xs k
+
+-- the trace formulas among these
+abbrev pub pure_ones : List TermTree → List TermTree
+pure_ones [] = []
+pure_ones (t ∷ ts) = cond (is_pure t) (t ∷ pure_ones ts) (pure_ones ts)
+
+abbrev pub pure_or_false : TermTree → TermTree
+pure_or_false t = cond (is_pure t) t falsity

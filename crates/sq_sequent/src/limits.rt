@@ -3,7 +3,7 @@ ghost use Rattle.std.specs.Prelude.{◌≡◌, min, map};
 ghost use Rattle.sq_base.specs.Gives.{Gives};
 ghost use Rattle.sq_term.specs.View.{term_tree};
 ghost use Rattle.sq_system.specs.Sequents.{item_of, sequent_tree};
-ghost use Rattle.sq_sequent.specs.Limits as spec;
+ghost use Rattle.sq_system.specs.Sizes as spec;
 ghost use Rattle.sq_sequent.specs.Logic.{sequent_trees, within_limits};
 
 use crate::fault::RuleFault;
@@ -134,6 +134,7 @@ fn all_fit(premises: &[Sequent]) -> bool
 }
 
 /// The premises, or TooLarge where one of them does not fit.
+#[tactic(auto, unfolding(crate::specs::Logic::within_limits))]
 pub fn judge(premises: Seq<Sequent>) -> Result<Seq<Sequent>, RuleFault>
     ensures { Gives RuleFault.NoMemory sequent_trees result (within_limits (sequent_trees premises)) }
 {

@@ -1,16 +1,18 @@
 // Premises, made from the sequent that they are to show.
-ghost use Rattle.std.specs.Prelude.{◌≡◌, IfOk, [], ◌∷◌};
+ghost use Rattle.std.specs.Prelude.{◌≡◌, ◌<◌, ◌++◌, IfOk, OnOk, [], ◌∷◌, length, map};
 ghost use Rattle.sq_base.specs.Gives.{Gives};
 ghost use Rattle.sq_term.specs.View.{term_tree};
-ghost use Rattle.sq_system.specs.Sequents.{sequent_tree};
+ghost use Rattle.sq_system.specs.Sequents.{sequent_tree, trace};
 ghost use Rattle.sq_sequent.specs.Premises as spec;
+ghost use Rattle.sq_sequent.specs.Premises.{without};
 ghost use Rattle.sq_sequent.specs.Logic.{sequent_trees, within_limits};
 
 use crate::fault::RuleFault;
+use crate::formulas::constant;
 use crate::limits::judge;
 use sq_base::{NoMemory, Seq, Sort};
 use sq_system::{Both, Sequent};
-use sq_term::{Term, copy};
+use sq_term::{Builtin, Term, copy, is_pure};
 use std::alloc::Global;
 
 fn copy_sorts(alloc: Global, sorts: &Seq<Sort>) -> Result<Seq<Sort>, NoMemory>
@@ -24,10 +26,17 @@ pub fn copy_terms(alloc: Global, terms: &[Term]) -> Result<Seq<Term>, NoMemory>
     ensures { IfOk result (λ c. c ≡ terms.now) }
 {
     let mut out = Seq::new(alloc);
+    push_copies(alloc, &mut out, terms)?;
+    Ok(out)
+}
+
+fn push_copies(alloc: Global, out: &mut Seq<Term>, terms: &[Term]) -> Result<(), NoMemory>
+    ensures { OnOk result (out.new ≡ out.old ++ terms.now) }
+{
     for term in terms {
         out.push(copy(alloc, term)?)?;
     }
-    Ok(out)
+    Ok(())
 }
 
 fn copy_items(alloc: Global, items: &[Both]) -> Result<Seq<Both>, NoMemory>
@@ -88,6 +97,7 @@ pub fn copy_sequent(alloc: Global, s: &Sequent) -> Result<Sequent, NoMemory>
 }
 
 /// The sequent's hypotheses with this goal. Of an equivalence it is asked as a Trace sequent.
+#[tactic(auto, unfolding(crate::specs::Premises::asking))]
 pub fn asking(alloc: Global, s: &Sequent, goal: Term) -> Result<Sequent, NoMemory>
     ensures { IfOk result (λ p. sequent_tree p ≡ spec.asking (sequent_tree s.now) (term_tree goal)) }
 {
@@ -114,6 +124,7 @@ pub fn asking(alloc: Global, s: &Sequent, goal: Term) -> Result<Sequent, NoMemor
 }
 
 /// The sequent with one more hypothesis.
+#[tactic(auto, unfolding(crate::specs::Premises::assuming))]
 pub fn assuming(s: Sequent, hyp: Term) -> Result<Sequent, NoMemory>
     ensures { IfOk result (λ p. sequent_tree p ≡ spec.assuming (sequent_tree s) (term_tree hyp)) }
 {
@@ -155,6 +166,117 @@ pub fn assuming(s: Sequent, hyp: Term) -> Result<Sequent, NoMemory>
             })
         }
     }
+}
+
+/// The sequent's hypotheses with a copy of this goal.
+pub fn asking_copy(alloc: Global, s: &Sequent, goal: &Term) -> Result<Sequent, NoMemory>
+    ensures { IfOk result (λ p. sequent_tree p ≡ spec.asking (sequent_tree s.now) (term_tree goal.now)) }
+{
+    let goal = copy(alloc, goal)?;
+    asking(alloc, s, goal)
+}
+
+/// A copy of the sequent with a copy of one more hypothesis.
+pub fn assuming_copy(alloc: Global, s: &Sequent, hyp: &Term) -> Result<Sequent, NoMemory>
+    ensures { IfOk result (λ p. sequent_tree p ≡ spec.assuming (sequent_tree s.now) (term_tree hyp.now)) }
+{
+    let hyp = copy(alloc, hyp)?;
+    let s = copy_sequent(alloc, s)?;
+    assuming(s, hyp)
+}
+
+/// The sequent with a copy of one more hypothesis.
+pub fn also_assuming(alloc: Global, s: Sequent, hyp: &Term) -> Result<Sequent, NoMemory>
+    ensures { IfOk result (λ p. sequent_tree p ≡ spec.assuming (sequent_tree s) (term_tree hyp.now)) }
+{
+    let hyp = copy(alloc, hyp)?;
+    assuming(s, hyp)
+}
+
+/// The sequent with these hypotheses.
+#[tactic(auto, unfolding(crate::specs::Premises::with_hyps))]
+pub fn with_hyps(alloc: Global, s: &Sequent, hyps: Seq<Term>) -> Result<Sequent, NoMemory>
+    ensures { IfOk result (λ p. sequent_tree p ≡ spec.with_hyps (map term_tree hyps) (sequent_tree s.now)) }
+{
+    match s {
+        Sequent::Trace { vars, goal, .. } => Ok(Sequent::Trace {
+            vars: copy_sorts(alloc, vars)?,
+            hyps,
+            goal: copy(alloc, goal)?,
+        }),
+        Sequent::Local {
+            side,
+            vars,
+            goal,
+            ..
+        } => Ok(Sequent::Local {
+            side: *side,
+            vars: copy_sorts(alloc, vars)?,
+            hyps,
+            goal: copy(alloc, goal)?,
+        }),
+        Sequent::Equiv {
+            vars,
+            known,
+            items,
+            ..
+        } => Ok(Sequent::Equiv {
+            vars: copy_sorts(alloc, vars)?,
+            hyps,
+            known: copy_known(alloc, known.as_slice())?,
+            items: copy_items(alloc, items.as_slice())?,
+        }),
+    }
+}
+
+/// The terms but the one at this place.
+pub fn copy_without(alloc: Global, terms: &[Term], at: usize) -> Result<Seq<Term>, NoMemory>
+    requires { at < length terms.now }
+    ensures { IfOk result (λ c. c ≡ without terms.now at) }
+{
+    let mut out = copy_terms(alloc, &terms[..at])?;
+    push_copies(alloc, &mut out, &terms[at + 1..])?;
+    Ok(out)
+}
+
+/// The trace formulas among these, in their order.
+#[tactic(auto, using(crate::proofs::PureOnes::pure_rules))]
+pub fn pure_ones(alloc: Global, terms: &[Term]) -> Result<Seq<Term>, NoMemory>
+    ensures { IfOk result (λ c. map term_tree c ≡ spec.pure_ones (map term_tree terms.now)) }
+{
+    let mut out = Seq::new(alloc);
+    for term in terms {
+        if is_pure(term) {
+            out.push(copy(alloc, term)?)?;
+        }
+    }
+    Ok(out)
+}
+
+/// The term where it is a trace formula, and else false.
+pub fn pure_or_false(alloc: Global, t: &Term) -> Result<Term, NoMemory>
+    ensures { IfOk result (λ c. term_tree c ≡ spec.pure_or_false (term_tree t.now)) }
+{
+    if is_pure(t) {
+        copy(alloc, t)
+    } else {
+        Ok(constant(alloc, Builtin::False))
+    }
+}
+
+/// What these hypotheses say of the trace alone, with this goal.
+pub fn about_the_trace(
+    alloc: Global,
+    vars: &Seq<Sort>,
+    hyps: &[Term],
+    goal: Term,
+) -> Result<Sequent, NoMemory>
+    ensures { IfOk result
+        (λ p. sequent_tree p ≡ trace vars.now (spec.pure_ones (map term_tree hyps.now)) (term_tree goal)) }
+{
+    let vars = copy_sorts(alloc, vars)?;
+    let hyps = pure_ones(alloc, hyps)?;
+    Ok(Sequent::Trace { vars, hyps, goal })
 }
 
 /// The one premise, or TooLarge.

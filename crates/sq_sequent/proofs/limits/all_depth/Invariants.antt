@@ -1,7 +1,6 @@
-use Rattle.std.proofs.Common.{◌≡◌, min, max, map, ◌+◌, ◌≤◌, drop}
+use Rattle.std.proofs.Common.{◌≡◌, min, max, map, ◌≤◌, drop}
 use Rattle.sq_term.specs.View.{term_tree}
-use Rattle.sq_system.specs.Sequents.{item_of}
-use Rattle.sq_sequent.specs.Limits.{all_depth}
+use Rattle.sq_system.specs.Sizes.{all_depth}
 use Rattle.sq_sequent.proofs.limits.all_depth.Given as goal
 
 abbrev pub invariant-loop-term : goal.invariant-loop-term

@@ -1,7 +1,6 @@
-use Rattle.std.proofs.Common.{◌≡◌, min, max, map, ◌+◌, ◌≤◌, drop}
-use Rattle.sq_term.specs.View.{term_tree}
+use Rattle.std.proofs.Common.{◌≡◌, min, map, ◌+◌, ◌≤◌, drop}
 use Rattle.sq_system.specs.Sequents.{item_of}
-use Rattle.sq_sequent.specs.Limits.{items_size}
+use Rattle.sq_system.specs.Sizes.{items_size}
 use Rattle.sq_sequent.proofs.limits.items_size.Given as goal
 
 abbrev pub invariant-loop-item : goal.invariant-loop-item

@@ -1,7 +1,6 @@
-use Rattle.std.proofs.Common.{◌≡◌, min, max, map, ◌+◌, ◌≤◌, drop}
-use Rattle.sq_term.specs.View.{term_tree}
+use Rattle.std.proofs.Common.{◌≡◌, min, map, ◌+◌, ◌≤◌, drop}
 use Rattle.sq_system.specs.Sequents.{item_of}
-use Rattle.sq_sequent.specs.Limits.{known_size}
+use Rattle.sq_system.specs.Sizes.{known_size}
 use Rattle.sq_sequent.proofs.limits.known_size.Given as goal
 
 abbrev pub invariant-loop-items : goal.invariant-loop-items
