@@ -1,5 +1,5 @@
 -- A chain has the tree that the grammar gives to its words, and each chain's words are of the grammar.
-use Rattle.std.proofs.Common.{◌≡◌, ◌⊎◌, inl, inr, ℕ, Bool, true, false, cond, List, [], ◌∷◌, ◌++◌, Option, Some, None, codes, unwrap_or, refl, sym, ◌∙◌, ap}
+use Rattle.std.proofs.Common.{◌≡◌, ℕ, Bool, true, false, cond, List, [], ◌∷◌, ◌++◌, Option, Some, None, codes, unwrap_or, refl, sym, ◌∙◌, ap}
 use Rattle.std.specs.Str.{bytes_eq}
 use Rattle.std.proofs.lemmas.Slice.Eq.{bytes_eq-Decides}
 use Rattle.sq_term.specs.Syntax.{TermTree}
@@ -9,21 +9,21 @@ use Rattle.squirrel.specs.declared.formula.Chain.{Chain}
 use Rattle.squirrel.specs.Formulas.{Declarations, Halves, constant, conjunction, implication, whole, linked, halves_of, tree_of, function_of, connective_of, one, longer, chain_of}
 use Rattle.squirrel.specs.Grammar.{Conj, single, both, Formula, conj, implies, conj_words, formula_words, name_tree, conj_tree, formula_tree}
 
-abbrev halves : Chain → Halves
+abbrev pub halves : Chain → Halves
 halves c = halves_of c.links c.last
 
 same_chain : (a b : Chain) → Some a ≡ Some b → a ≡ b
 same_chain a b e = cc
 
 -- what stands behind the first connective of a chain
-record Longer (f : Option ℕ) (k : Connective) (o : Option Chain) (c : Chain) : Type 0 where
-  number : ℕ
-  rest : Chain
-  named : f ≡ Some number
-  later : o ≡ Some rest
-  parts : halves c ≡ linked number k (halves rest)
+pub record Longer (f : Option ℕ) (k : Connective) (o : Option Chain) (c : Chain) : Type 0 where
+  pub number : ℕ
+  pub rest : Chain
+  pub named : f ≡ Some number
+  pub later : o ≡ Some rest
+  pub parts : halves c ≡ linked number k (halves rest)
 
-longer_parts : (f : Option ℕ) (k : Connective) (o : Option Chain) (c : Chain) → longer f (Some k) o ≡ Some c → Longer f k o c
+pub longer_parts : (f : Option ℕ) (k : Connective) (o : Option Chain) (c : Chain) → longer f (Some k) o ≡ Some c → Longer f k o c
 longer_parts None k o c e = absurd (cc (e))
 longer_parts (Some n) k None c e = absurd (cc (e))
 longer_parts (Some n) k (Some r) c e = record { number = n; rest = r; named = refl; later = refl; parts = ap halves (sym (same_chain (record { links = record { function = n; connective = k } ∷ r.links; last = r.last }) c e)) }

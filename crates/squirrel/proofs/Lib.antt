@@ -4,4 +4,14 @@ mod Scans
 mod Chains
 mod Sentences
 mod Listing
+mod Declared
 mod Grammars
+mod Tokens
+mod Layouts
+mod LaidOut
+mod Names
+mod Spelling
+mod Steps
+mod FileScripts
+mod SentencesRead
+mod FilesRead

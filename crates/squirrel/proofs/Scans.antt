@@ -11,12 +11,12 @@ use Rattle.squirrel.specs.Scanning.{is_start, is_part, is_word, is_mark, is_toke
 part_is_ascii : (b : ℕ) → is_part b ≡ true → b < 128
 part_is_ascii b h = grind (arith, nat_tests)
 
-both : (a b : Bool) → a && b ≡ true → (a ≡ true) × (b ≡ true)
+pub both : (a b : Bool) → a && b ≡ true → (a ≡ true) × (b ≡ true)
 both true true h = (refl, refl)
 both true false h = absurd (cc (h))
 both false b h = absurd (cc (h))
 
-either : (a b : Bool) → a || b ≡ true → (a ≡ true) ⊎ (b ≡ true)
+pub either : (a b : Bool) → a || b ≡ true → (a ≡ true) ⊎ (b ≡ true)
 either true b h = inl refl
 either false b h = inr h
 

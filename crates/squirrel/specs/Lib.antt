@@ -1,7 +1,9 @@
 pub mod Answering
+pub mod Files
 pub mod Formulas
 pub mod Grammar
 pub mod Headline
+pub mod Layout
 pub mod Run
 pub mod Running
 pub mod Scanning

@@ -1,6 +1,7 @@
 // What is answered for a file that was read.
-ghost use Rattle.std.specs.Prelude.{◌≡◌, ◌≤◌, ◌++◌, IfOk, OnOk, length, decimal};
+ghost use Rattle.std.specs.Prelude.{◌≡◌, ◌≤◌, ◌++◌, [], Some, IfOk, OnOk, length, decimal};
 ghost use Rattle.squirrel.specs.Answering as spec;
+ghost use Rattle.squirrel.specs.Running.{trouble_of};
 
 use crate::runner::{Trouble, run_proofs};
 use crate::scan::sentences;
@@ -26,10 +27,25 @@ pub fn answer_to(alloc: Global, bytes: &[u8]) -> Result<Answer, NoMemory>
     let text = Seq::from_vec(Vec::with_capacity(alloc, 2 * bytes.len() + 256)?);
     match read_file_form(alloc, bytes)? {
         None => refused(text, bytes, Trouble::NotBuilt),
-        Some(script) => match run_proofs(alloc, &script)? {
-            None => listed(text, script.lemmas.as_slice()),
-            Some(trouble) => refused(text, bytes, trouble),
-        },
+        Some(script) => answer_to_script(alloc, text, bytes, script),
+    }
+}
+
+// The answer for a file of the form.
+fn answer_to_script(
+    alloc: Global,
+    text: Seq<u8>,
+    bytes: &[u8],
+    script: Script,
+) -> Result<Answer, NoMemory>
+    requires short { length bytes.now ≤ 1048576 }
+    requires empty { text ≡ [] }
+    requires form { spec.form_of bytes.now ≡ Some script }
+    ensures { IfOk result (λ a. (a ≡ spec.answer_of_run bytes.now script (trouble_of script)) × spec.IsVerdict a.status) }
+{
+    match run_proofs(alloc, &script)? {
+        None => listed(text, script.lemmas.as_slice()),
+        Some(trouble) => refused(text, bytes, trouble),
     }
 }
 

@@ -1,6 +1,7 @@
 // Runs the proofs of a file.
-ghost use Rattle.std.specs.Prelude.{◌≡◌, ◌<◌, IfOk, length, map};
+ghost use Rattle.std.specs.Prelude.{◌≡◌, ◌<◌, IfOk, length, map, true};
 ghost use Rattle.sq_system.specs.Environments.{env_tree, stmt_tree};
+ghost use Rattle.sq_system.specs.WellFormed.{is_environment};
 ghost use Rattle.squirrel.specs.Running as spec;
 
 use crate::formula::{Chain, term_of};
@@ -26,6 +27,7 @@ pub enum Trouble {
 /// The first trouble of the proofs. Where there is none, they close all goals.
 #[tactic(auto, unfolding(crate::specs::Running::trouble_of))]
 pub fn run_proofs(alloc: Global, script: &Script) -> Result<Option<Trouble>, NoMemory>
+    requires { is_environment (spec.environment_of script.now) ≡ true }
     ensures { IfOk result (λ trouble. trouble ≡ spec.trouble_of script.now) }
 {
     let env = environment_of(alloc, script)?;
@@ -80,6 +82,7 @@ fn open_goals(count: usize, qed: Place) -> Option<Trouble>
 
 // The environment of the file's declarations.
 fn environment_of(alloc: Global, script: &Script) -> Result<Env, NoMemory>
+    requires { is_environment (spec.environment_of script.now) ≡ true }
     ensures { IfOk result (λ env. env_tree env ≡ spec.environment_of script.now) }
 {
     let funs = Seq::from_slice(alloc, script.funs.as_slice())?;

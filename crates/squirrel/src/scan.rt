@@ -1,7 +1,9 @@
 // From bytes to sentences of tokens.
-ghost use Rattle.std.specs.Prelude.{◌≡◌, ◌++◌, ◌∷◌, Some, None, IfOk, OnOk, if◌then◌else◌, MatchOption, IsTrue};
+ghost use Rattle.std.specs.Prelude.{◌≡◌, ℕ, List, ◌++◌, ◌∷◌, Some, None, IfOk, OnOk, if◌then◌else◌, MatchOption, IsTrue};
 ghost use Rattle.std.specs.List.{list_all};
 ghost use Rattle.squirrel.specs.Scanning as spec;
+ghost use Rattle.squirrel.specs.Layout.{AreLaidOut};
+ghost use Rattle.squirrel.specs.declared.scan.Sentence.{Sentence};
 
 use sq_base::{NoMemory, Seq, Text};
 use std::alloc::Global;
@@ -190,3 +192,11 @@ fn is_token(text: &[u8]) -> bool
 {
     is_word(text) || text == b":".as_slice() || text == b"=>".as_slice() || text == b"&&".as_slice()
 }
+
+/// What the sentences of bytes are, in the words of a layout: bytes have these sentences exactly where
+/// they are laid out as these, and bytes are laid out as the sentences of one list at most.
+pub fn sentences_are_laid_out()
+    ensures laid_out { (bytes : List ℕ) (found : List Sentence) → spec.sentences_of bytes ≡ Some found → AreLaidOut bytes found }
+    ensures complete { (bytes : List ℕ) (found : List Sentence) → AreLaidOut bytes found → spec.sentences_of bytes ≡ Some found }
+    ensures once { (bytes : List ℕ) (a b : List Sentence) → AreLaidOut bytes a → AreLaidOut bytes b → a ≡ b }
+{}

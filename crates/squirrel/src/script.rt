@@ -1,14 +1,17 @@
 // From sentences to lemmas with their proofs.
-ghost use Rattle.std.specs.Prelude.{◌≡◌, IfOk};
+ghost use Rattle.std.specs.Prelude.{◌≡◌, IfOk, Some, List};
+ghost use Rattle.squirrel.specs.declared.scan.Sentence.{Sentence};
+ghost use Rattle.squirrel.specs.declared.script.Script.{Script};
+ghost use Rattle.squirrel.specs.Files.{IsFileOf};
 ghost use Rattle.std.specs.Str.{bytes_eq};
-ghost use Rattle.sq_system.specs.Environments as environment;
 ghost use Rattle.squirrel.specs.Scripts as spec;
 
 use crate::formula::{Chain, is_shallow, read_chain};
 use crate::scan::{Sentence, is_word};
 use sq_base::{NoMemory, Seq, Sort, Text};
 use sq_sym::{SymFault, Symbol, Table};
-use sq_term::{FunDecl, FunRole};
+use sq_system::{builtin_functions, plain_function};
+use sq_term::FunDecl;
 use sq_token::{Reserved, reserved_of};
 use std::alloc::Global;
 
@@ -290,46 +293,6 @@ impl Script {
     }
 }
 
-fn plain_function(args: u32, sort: Sort) -> FunDecl
-    ensures { result ≡ environment.plain_function args sort }
-{
-    FunDecl {
-        idx: 0,
-        args,
-        result: sort,
-        role: FunRole::Plain,
-    }
-}
-
-// The functions that every signature begins with, in the order of their numbers.
-fn builtin_functions(alloc: Global) -> Result<Seq<FunDecl>, NoMemory>
-    ensures { IfOk result (λ funs. funs ≡ environment.builtin_functions) }
-{
-    let truth = plain_function(0, Sort::Boolean);
-    let negation = plain_function(1, Sort::Boolean);
-    let connective = plain_function(2, Sort::Boolean);
-    let of_one = plain_function(1, Sort::Message);
-    Seq::from_slice(
-        alloc,
-        &[
-            plain_function(0, Sort::Message),
-            truth,
-            truth,
-            negation,
-            connective,
-            connective,
-            connective,
-            connective,
-            plain_function(3, Sort::Message),
-            plain_function(2, Sort::Message),
-            of_one,
-            of_one,
-            of_one,
-            of_one,
-        ],
-    )
-}
-
 // A number of a list's place or of a function, where it is none past those that may be.
 fn number_of(count: usize) -> Result<u32, NoMemory>
     ensures { IfOk result (λ n. n ≡ count) }
@@ -421,3 +384,10 @@ fn read_destruct(
     let second = second.copy(alloc)?;
     Ok(Some(Command::Destruct(hyp, first, second)))
 }
+
+/// What the sentences of a file hold, in the words of a file's form: sentences are read as a script
+/// exactly where they are those of a file of the form that holds it.
+pub fn scripts_are_of_files()
+    ensures file { (sentences : List Sentence) (script : Script) → spec.script_of sentences ≡ Some script → IsFileOf sentences script }
+    ensures complete { (sentences : List Sentence) (script : Script) → IsFileOf sentences script → spec.script_of sentences ≡ Some script }
+{}

@@ -91,12 +91,22 @@ fn files_have_their_verdicts(rt: HostRuntime) -> Result<(), Fail> {
             "refused: sentence 10, line 10: Shape\n",
         ),
         (
+            "intro H.\ndestruct H as B C.\nsplit.\nassumption.\nassumption.\ndestruct K as B B.\nQed.\n",
+            Status::Refused,
+            "refused: sentence 10, line 10: Shape\n",
+        ),
+        (
             "destruct K as B C.\nQed.\n",
             Status::Refused,
             "refused: NotBuilt\n",
         ),
         (
             "intro H.\ndestruct H as B B.\nQed.\n",
+            Status::Refused,
+            "refused: NotBuilt\n",
+        ),
+        (
+            "intro H.\ndestruct H as H C.\nQed.\n",
             Status::Refused,
             "refused: NotBuilt\n",
         ),
@@ -122,6 +132,16 @@ fn files_have_their_verdicts(rt: HostRuntime) -> Result<(), Fail> {
         ),
         (
             "split.\nQed.\nlemma two : b => d.\nProof.\nQed.\n",
+            Status::Refused,
+            "refused: NotBuilt\n",
+        ),
+        (
+            "split.\nQed.\nlemma b : c => c.\nProof.\nQed.\n",
+            Status::Refused,
+            "refused: NotBuilt\n",
+        ),
+        (
+            "split.\nQed.\nabstract d : boolean.\n",
             Status::Refused,
             "refused: NotBuilt\n",
         ),
@@ -158,6 +178,7 @@ fn calls_of_the_outside_fail(rt: HostRuntime) -> Result<(), Fail> {
         (0, 5, 0, Status::Done, b"proved swap\n"),
         (0, 5, 2, Status::OutFault, b"prove"),
         (0, 0, 0, Status::OutFault, b""),
+        (0, 1000, 1, Status::OutFault, b""),
         (1, 5, 2, Status::OutFault, b"shelf"),
     ];
     for (shelf_fails, most, sink_fails, want, text) in rows {
@@ -229,6 +250,84 @@ fn a_formula_has_a_greatest_depth(rt: HostRuntime) -> Result<(), Fail> {
         let (status, written) = check(alloc, bytes.as_slice(), &[], 1000, &[])?;
         assert_eq!(rt; status, Status::Refused, "{more}");
         assert_eq!(rt; written.as_slice(), text, "{more}");
+    }
+    Ok(())
+}
+
+#[test]
+fn reads_fail_in_turn(rt: HostRuntime) -> Result<(), Fail> {
+    let alloc = rt.alloc();
+    // Three pieces, and the read that finds the end.
+    let bytes = vec![in alloc; b' '; 131_073]?;
+    let fault = b"shelf fault: FILE\n".as_slice();
+    for call in 1u64..6 {
+        let (want, text) = if call < 5 {
+            (Status::ShelfFault, fault)
+        } else {
+            (Status::Done, b"".as_slice())
+        };
+        let (status, written) = check(alloc, bytes.as_slice(), &[call], 1000, &[])?;
+        assert_eq!(rt; status, want, "{call}");
+        assert_eq!(rt; written.as_slice(), text, "{call}");
+    }
+    Ok(())
+}
+
+// Puts a conjunction of so many names.
+fn add_conjunction(bytes: &mut Vec<u8>, names: usize) -> Result<(), NoMemory> {
+    bytes.extend_from_slice(b"b")?;
+    for _ in 1..names {
+        bytes.extend_from_slice(b"&&b")?;
+    }
+    Ok(())
+}
+
+// A lemma that is an implication from these premises, from a conjunction of so many names, and from
+// conjunctions of `most` names, one less, and so on, with a proof of these commands.
+fn long_lemma(
+    alloc: Global,
+    premises: &str,
+    names: usize,
+    most: usize,
+    commands: &str,
+) -> Result<Vec<u8>, NoMemory> {
+    let mut bytes = Vec::from_slice(alloc, b"abstract b:boolean.lemma l:")?;
+    bytes.extend_from_slice(premises.as_bytes())?;
+    add_conjunction(&mut bytes, names)?;
+    for less in 0..most {
+        bytes.extend_from_slice(b"=>")?;
+        add_conjunction(&mut bytes, most - less)?;
+    }
+    bytes.extend_from_slice(b"=>b.Proof.")?;
+    bytes.extend_from_slice(commands.as_bytes())?;
+    bytes.extend_from_slice(b"Qed.")?;
+    Ok(bytes)
+}
+
+#[test]
+fn new_goals_have_a_greatest_size(rt: HostRuntime) -> Result<(), Fail> {
+    let alloc = rt.alloc();
+    // The last goals have 65,536 and 65,537 nodes: what is taken apart stays beside its parts.
+    for (premises, names, most, commands, text) in [
+        (
+            "",
+            192usize,
+            254usize,
+            "intro H.destruct H as B C.",
+            "refused: sentence 6, line 1: OpenGoals(1)\n",
+        ),
+        (
+            "b=>",
+            213,
+            253,
+            "intro X.intro H.destruct H as B C.destruct H as D E.",
+            "refused: NotBuilt\n",
+        ),
+    ] {
+        let bytes = long_lemma(alloc, premises, names, most, commands)?;
+        let (status, written) = check(alloc, bytes.as_slice(), &[], 1000, &[])?;
+        assert_eq!(rt; status, Status::Refused, "{names}");
+        assert_eq!(rt; written.as_slice(), text.as_bytes(), "{names}");
     }
     Ok(())
 }
