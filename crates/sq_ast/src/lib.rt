@@ -1,0 +1,12 @@
+//! Syntax trees of formulas, processes, declarations and proof commands.
+#![tactic(auto)]
+
+mod command;
+mod declaration;
+mod formula;
+mod process;
+
+pub use command::ProofCommand;
+pub use declaration::{Decl, ProcDecl};
+pub use formula::{Binary, Binders, Constant, Form, Formula, MacroWord, Quantifier, Unary};
+pub use process::Proc;
