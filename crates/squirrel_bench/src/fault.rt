@@ -1,0 +1,38 @@
+// Why a run stops.
+use sq_base::NoMemory;
+use sq_term::SizeFault;
+
+/// Its number is the exit status of the program.
+#[derive(Clone, Copy, Debug, PartialEq, Eq)]
+pub enum Fault {
+    /// The words are none that the program knows.
+    Usage = 2,
+    /// Something is larger than it was built to be.
+    Limit = 6,
+    NoMemory = 7,
+}
+
+impl From<NoMemory> for Fault {
+    ghost use Rattle.std.specs.Prelude.{◌≡◌};
+    ghost use Rattle.squirrel_bench.specs.declared.fault.Fault.TheVariants.{NoMemory as OutOfMemory};
+
+    ghost from_gives = { λ _ e. e ≡ OutOfMemory };
+
+    fn from(_: NoMemory) -> Self {
+        Fault::NoMemory
+    }
+}
+
+impl From<SizeFault> for Fault {
+    ghost use Rattle.std.specs.Prelude.{◌≡◌};
+    ghost use Rattle.squirrel_bench.specs.Faults.{fault_of};
+
+    ghost from_gives = { λ fault e. e ≡ fault_of fault };
+
+    fn from(fault: SizeFault) -> Self {
+        match fault {
+            SizeFault::TooLarge => Fault::Limit,
+            SizeFault::NoMemory => Fault::NoMemory,
+        }
+    }
+}
