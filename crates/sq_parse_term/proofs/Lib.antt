@@ -1,0 +1,11 @@
+pub mod Outcomes
+pub mod Sound
+pub mod Again
+pub mod Complete
+pub mod Within
+pub mod Runs
+pub mod Heights
+pub mod Steps
+pub mod Turns
+pub mod Answered
+pub mod Ranks

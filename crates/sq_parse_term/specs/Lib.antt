@@ -1,0 +1,4 @@
+pub mod Parse
+pub mod Reads
+pub mod Answers
+pub mod Ended
