@@ -1,8 +1,9 @@
-//! Times parts of the program. The words `SUBJECT WORD TURNS` say what is done and how often. The
-//! scripts in bench/ take the time around a run, and that around one with no work.
+//! Times parts of the program. The words `SUBJECT WORD TURNS` say what is done and how often, or of
+//! how many KiB. The scripts in bench/ take the time around a run.
 #![tactic(auto)]
 
 mod fault;
+mod reading;
 mod substitution;
 
 use fault::Fault;
@@ -35,6 +36,8 @@ fn turned(alloc: Global, words: &[String]) -> Result<u32, Fault> {
     let turns = turns.as_str().parse::<u32>().or(Err(Fault::Usage))?;
     match subject.as_str() {
         "substitution" => substitution::turned(alloc, word.as_str(), turns),
+        "lexing" => reading::lexed(alloc, word.as_str(), turns),
+        "parsing" => reading::parsed(alloc, word.as_str(), turns),
         _ => Err(Fault::Usage),
     }
 }
