@@ -94,7 +94,7 @@ fn add_reader(
     })
 }
 
-// A reader that found no key: `R1(i)`, action 0.
+// A reader that found no key: `read(i)`, action 0.
 fn reader(alloc: Global) -> Result<System, PushFault> {
     let mut system = System::empty(alloc);
     let path = match Seq::from_slice(alloc, &[PathStep::Rep, PathStep::NotFound, PathStep::Done]) {
@@ -125,7 +125,7 @@ fn reader_instance(alloc: Global, i: Idx) -> Result<Ts, NoMemory> {
     Ok(Ts::Act(0, Seq::from_slice(alloc, &[i])?))
 }
 
-// `forall (j:index), happens(R1(j)) => not(exec@R1(j))`, which is not so.
+// `forall (j:index), happens(read(j)) => not(exec@read(j))`, which is not so.
 fn bad_lemma(alloc: Global) -> Result<Term, NoMemory> {
     let happens = Term::Happens(reader_instance(alloc, Idx::Bound(0))?);
     let exec = Term::Macro(Macro::Exec, reader_instance(alloc, Idx::Bound(0))?);

@@ -6,9 +6,10 @@ ghost use Rattle.sq_term.specs.Systems.{action_tree};
 
 use sq_term::{Action, Term};
 
+/// Whether the two sides of the term differ somewhere: it holds a `Diff`.
 #[cycle(diff)]
 #[tactic(auto, using(sq_term::proofs::Views::tree_rules))]
-fn holds_diff(t: &Term) -> bool
+pub fn holds_diff(t: &Term) -> bool
     ensures { result ≡ spec_holds (term_tree t.now) }
 {
     match t {

@@ -9,6 +9,7 @@ mod sequent;
 mod system;
 
 pub use clash::Clash;
+pub use diff::holds_diff;
 pub use env::{Env, Stmt, StmtKind};
 pub use functions::{builtin_functions, plain_function};
 pub use sequent::{Both, OpenGoal, Sequent};
