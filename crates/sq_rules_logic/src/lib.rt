@@ -6,7 +6,7 @@ ghost use Rattle.sq_base.specs.Gives.{Gives};
 ghost use Rattle.sq_system.specs.Environments.{env_tree};
 ghost use Rattle.sq_system.specs.Sequents.{sequent_tree};
 ghost use Rattle.sq_sequent.specs.Logic.{sequent_trees, logic_premises};
-ghost use Rattle.sq_sequent.specs.Soundness.{PremisesSuffice};
+ghost use Rattle.sq_sequent.specs.Soundness.{PremisesSuffice, PremisesAreWellFormed};
 
 mod equations;
 mod propositional;
@@ -30,6 +30,7 @@ pub fn premises(
 ) -> Result<Seq<Sequent>, RuleFault>
     ensures exact { Gives RuleFault.NoMemory sequent_trees result (logic_premises step.now (sequent_tree s.now) (env_tree env.now) goal) }
     ensures sound { IfOk result (λ ps. PremisesSuffice (env_tree env.now) goal (sequent_trees ps) (sequent_tree s.now)) }
+    ensures well_formed { IfOk result (λ ps. PremisesAreWellFormed (env_tree env.now) goal (sequent_trees ps) (sequent_tree s.now)) }
 {
     match row(alloc, step, s, env, goal) {
         Ok(premises) => Ok(premises),

@@ -6,3 +6,5 @@ pub mod Purity
 pub mod EqualityRules
 pub mod Holding
 pub mod LogicSound
+pub mod Suited
+pub mod Preserved

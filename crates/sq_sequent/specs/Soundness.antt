@@ -1,10 +1,11 @@
--- What the soundness of a row says.
+-- What the soundness of a row says, and that its premises are well-formed.
 use Rattle.std.specs.Prelude.{◌≡◌, ℕ, List, true, false}
 use Rattle.sq_term.specs.declared.model.Model.{Model}
 use Rattle.sq_term.specs.Lists.{Each}
 use Rattle.sq_term.specs.Models.{IsTraceModel}
 use Rattle.sq_system.specs.Sequents.{SequentTree}
 use Rattle.sq_system.specs.Environments.{EnvTree}
+use Rattle.sq_system.specs.WellFormed.{is_well_formed}
 use Rattle.sq_ground.specs.Holding.{HoldsAt}
 use Rattle.sq_ground.specs.Theories.{theory_of}
 use Rattle.sq_ground.specs.Usable.{is_usable, is_axiom, statement_at, system_of}
@@ -22,3 +23,7 @@ PremisesSuffice env g premises s =
 -- they do at every model of its system
 abbrev pub EarlierHold : EnvTree → ℕ → Type 0
 EarlierHold env g = (m : Model) → IsTraceModel (system_of env g) m → EarlierHoldAt env g m
+
+-- where the sequent is well-formed for goal g, each premise is
+abbrev pub PremisesAreWellFormed : EnvTree → ℕ → List SequentTree → SequentTree → Type 0
+PremisesAreWellFormed env g premises s = is_well_formed env g s ≡ true → Each (λ p. is_well_formed env g p ≡ true) premises

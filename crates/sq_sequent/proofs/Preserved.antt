@@ -1,0 +1,320 @@
+-- Each premise of a well-formed sequent is well-formed.
+use Rattle.std.proofs.Common.{◌≡◌, ℕ, zero, suc, ◌==◌, refl, sym, ap, subst, ◌∙◌, List, [], ◌∷◌, Option, Some, None, Ok, Err, Bool, true, false, cond, ◌||◌}
+use Rattle.std.specs.Prelude.{slice_get, nat_lt, length}
+use Rattle.std.specs.List.{list_all}
+use Rattle.std.proofs.lemmas.Bool.Decides.{Decides-eqb}
+use Rattle.sq_base.specs.declared.sort.Sort.{Sort}
+use Rattle.sq_base.specs.declared.sort.Sort.TheVariants.{Message, Boolean}
+use Rattle.sq_term.specs.declared.signature.FunDecl.{FunDecl}
+use Rattle.sq_term.specs.declared.term.Side.{Side}
+use Rattle.sq_term.specs.declared.term.Side.TheVariants.{Left, Right, Both}
+use Rattle.sq_term.specs.Lists.{Each}
+use Rattle.sq_term.proofs.Members.{each_none, each_cons, each_single}
+use Rattle.sq_term.specs.Pure.{is_pure}
+use Rattle.sq_term.specs.Syntax.{TermTree}
+use Rattle.sq_term.specs.Systems.{ActionTree}
+use Rattle.sq_term.specs.TreeEquality.{is_same_sort}
+use Rattle.sq_term.proofs.BoolTests.{and_split, and_both}
+use Rattle.sq_term.proofs.SameTrees.{is_same_sort-decides}
+use Rattle.sq_system.specs.Environments.{EnvTree, StmtTree}
+use Rattle.sq_system.specs.Facts.{holds_diff}
+use Rattle.sq_system.specs.Functions.{plain_function, builtin_functions, begins_with, same_function, are_functions}
+use Rattle.sq_system.specs.Sequents.{SequentTree, trace, local, equiv}
+use Rattle.sq_system.specs.Sizes.{fits, all_fit}
+use Rattle.sq_system.specs.Typing.{Signature, is_binder_sort, result_sort, applies, has_sort}
+use Rattle.sq_system.specs.WellFormed.{signature_of, is_formula, is_trace_formula, is_local_formula, is_sorted, vars_of, is_sequent_of, is_well_formed_for, is_well_formed}
+use Rattle.sq_sequent.specs.declared.step.Step.{Step}
+use Rattle.sq_sequent.specs.declared.step.Step.TheVariants as step
+use Rattle.sq_sequent.specs.declared.fault.RuleFault.TheVariants.{TooLarge}
+use Rattle.sq_sequent.specs.Views.{Two, no_two, two, hyps_of, goal_of, local_goal_of, hyp_of, binary_in, unary_in}
+use Rattle.sq_sequent.specs.Premises.{falsity, equality, asking, assuming, with_hyps, without, pure_ones, pure_or_false}
+use Rattle.sq_sequent.specs.Logic.{closing_row, hyp_row, impi_row, noti_row, andi_row, orl_row, orr_row, ande_row, ore_row, impe_row, note_row, drop_row, trace_row, refl_row, sym_row, logic_row, within_limits, judged, logic_premises}
+use Rattle.sq_sequent.proofs.Inversion.{binary_tree, unary_tree, binary_in_is, unary_in_is}
+use Rattle.sq_sequent.proofs.Suited.{suited, suited-formula, suited-from, hyp-suited, goal-suited, assuming-sorted, asking-sorted, asking-suits, assuming-suits, without-sorted, pure_ones-sorted, conjunct-first, conjunct-second, disjunct-first, disjunct-second, implication-first, implication-second, negated}
+
+-- ---- false is a formula of every signature
+
+builtin-at : (bs fs : List FunDecl) (k : ℕ) (b : FunDecl) → begins_with bs fs ≡ true → slice_get bs k ≡ Some b → (d : FunDecl) × (slice_get fs k ≡ Some d) × (same_function b d ≡ true)
+builtin-at [] fs k b h e = absurd (cc)
+builtin-at (x ∷ xs) [] k b h e = let z : false ≡ true = h in absurd (cc)
+builtin-at (x ∷ xs) (y ∷ ys) zero b h e = let z : b ≡ x = cc in (y, refl, ap (λ (f : FunDecl). same_function f y) z ∙ (and_split (same_function x y) (begins_with xs ys) h).0)
+builtin-at (x ∷ xs) (y ∷ ys) (suc k) b h e = builtin-at xs ys k b (and_split (same_function x y) (begins_with xs ys) h).1 e
+
+-- a built-in function as its list has it
+turned : (m n : ℕ) → (m == n) ≡ true → (n == m) ≡ true
+turned m n h = (Decides-eqb n m).1 (sym ((Decides-eqb m n).0 h))
+
+applied : (g : Signature) (k n : ℕ) (s : Sort) → are_functions g.funs ≡ true → slice_get builtin_functions k ≡ Some (plain_function n s)
+    → (is_same_sort (result_sort g (slice_get g.funs k)) s ≡ true) × (applies g (slice_get g.funs k) 0 n ≡ true)
+applied g k n s h e = go (builtin-at builtin_functions g.funs k (plain_function n s) h e)
+  where
+    go : (d : FunDecl) × (slice_get g.funs k ≡ Some d) × (same_function (plain_function n s) d ≡ true)
+        → (is_same_sort (result_sort g (slice_get g.funs k)) s ≡ true) × (applies g (slice_get g.funs k) 0 n ≡ true)
+    go (d, at, same) =
+        let p = and_split (0 == d.idx) _ same in
+        let q = and_split (n == d.args) _ p.1 in
+        let r = and_split (is_same_sort s d.result) _ q.1 in
+        let z : s ≡ d.result = (is_same_sort-decides s d.result).0 r.0 in
+        let w : is_same_sort d.result s ≡ true = (is_same_sort-decides d.result s).1 (sym z) in (
+          ap (λ o. is_same_sort (result_sort g o) s) at ∙ w,
+          ap (λ o. applies g o 0 n) at ∙ and_both (d.idx == 0) (d.args == n) (turned 0 d.idx p.0) (turned n d.args q.0),
+        )
+
+falsity-formula : (g : Signature) → are_functions g.funs ≡ true → is_formula g falsity ≡ true
+falsity-formula g h =
+    let a = applied g 2 0 Boolean h refl in
+    and_both (is_same_sort (result_sort g (slice_get g.funs 2)) Boolean) _ a.0 (and_both (applies g (slice_get g.funs 2) 0 0) true a.1 refl)
+
+falsity-suited : (g : Signature) (s : SequentTree) → are_functions g.funs ≡ true → suited g s falsity ≡ true
+falsity-suited g (trace vars hyps goal) h = and_both (is_formula g falsity) true (falsity-formula g h) refl
+falsity-suited g (equiv vars hyps known items) h = and_both (is_formula g falsity) true (falsity-formula g h) refl
+falsity-suited g (local side vars hyps goal) h = one side
+  where
+    one : (q : Side) → is_local_formula g q falsity ≡ true
+    one Both = falsity-formula g h
+    one Left = and_both (is_formula g falsity) true (falsity-formula g h) refl
+    one Right = and_both (is_formula g falsity) true (falsity-formula g h) refl
+
+-- ---- an equation the other way round
+
+swapped-formula : (g : Signature) (u v : TermTree) → is_formula g (equality u v) ≡ true → is_formula g (equality v u) ≡ true
+swapped-formula g u v h =
+    let p = and_split (is_same_sort (result_sort g (slice_get g.funs 7)) Boolean) _ h in
+    let q = and_split (applies g (slice_get g.funs 7) 0 2) _ p.1 in
+    let r = and_split (has_sort g [] Message u) _ q.1 in
+    let t = and_split (has_sort g [] Message v) true r.1 in
+    and_both (is_same_sort (result_sort g (slice_get g.funs 7)) Boolean) _ p.0
+    (and_both (applies g (slice_get g.funs 7) 0 2) _ q.0
+    (and_both (has_sort g [] Message v) _ t.0 (and_both (has_sort g [] Message u) true r.0 refl)))
+
+or_turned : (a b : Bool) → (a || (b || false)) ≡ false → (b || (a || false)) ≡ false
+or_turned true b e = cc
+or_turned false true e = cc
+or_turned false false e = refl
+
+swapped-suited : (g : Signature) (s : SequentTree) (u v : TermTree) → suited g s (equality u v) ≡ true → suited g s (equality v u) ≡ true
+swapped-suited g s u v =
+    suited-from g s (equality u v) (equality v u) (swapped-formula g u v)
+    (λ h. let z : false ≡ true = h in cc)
+    (λ h. or_turned (holds_diff u) (holds_diff v) h)
+
+-- ---- the premises of a row
+
+module _ (g : Signature) (ok : are_functions g.funs ≡ true) where
+  -- well-sorted, over the same variables
+  abbrev Sorted : SequentTree → SequentTree → Type 0
+  Sorted s p = (vars_of p ≡ vars_of s) × (is_sorted g p ≡ true)
+
+  -- each premise of the row is
+  abbrev Sorts : SequentTree → Option (List SequentTree) → Type 0
+  Sorts s row = (ps : List SequentTree) → row ≡ Some ps → Each (Sorted s) ps
+
+  nothing : (s : SequentTree) → Sorts s None
+  nothing s ps e = absurd (cc)
+
+  none_left : (s : SequentTree) (b : Bool) → Sorts s (closing_row b)
+  none_left s true ps e = let z : ps ≡ [] = cc in subst (Each (Sorted s)) (sym z) (each_none (Sorted s))
+  none_left s false ps e = absurd (cc)
+
+  one : (s p : SequentTree) → Sorted s p → Sorts s (Some (p ∷ []))
+  one s p h ps e = let z : ps ≡ p ∷ [] = cc in subst (Each (Sorted s)) (sym z) (each_single p (Sorted s) h)
+
+  both : (s p q : SequentTree) → Sorted s p → Sorted s q → Sorts s (Some (p ∷ q ∷ []))
+  both s p q h k ps e = let z : ps ≡ p ∷ q ∷ [] = cc in subst (Each (Sorted s)) (sym z) (each_cons p (q ∷ []) (Sorted s) h (each_single q (Sorted s) k))
+
+  vars-asking : (s : SequentTree) (t : TermTree) → vars_of (asking s t) ≡ vars_of s
+  unfolding asking
+  vars-asking (trace vars H c) t = refl
+  vars-asking (local side vars H c) t = refl
+  vars-asking (equiv vars H known items) t = refl
+
+  vars-assuming : (s : SequentTree) (t : TermTree) → vars_of (assuming s t) ≡ vars_of s
+  unfolding assuming
+  vars-assuming (trace vars H c) t = refl
+  vars-assuming (local side vars H c) t = refl
+  vars-assuming (equiv vars H known items) t = refl
+
+  vars-with : (s : SequentTree) (G : List TermTree) → vars_of (with_hyps G s) ≡ vars_of s
+  unfolding with_hyps
+  vars-with (trace vars H c) G = refl
+  vars-with (local side vars H c) G = refl
+  vars-with (equiv vars H known items) G = refl
+
+  asked : (s : SequentTree) (t : TermTree) → is_sorted g s ≡ true → suited g s t ≡ true → Sorted s (asking s t)
+  asked s t h e = (vars-asking s t, asking-sorted g s t h e)
+
+  assumed : (s : SequentTree) (t : TermTree) → is_sorted g s ≡ true → suited g s t ≡ true → Sorted s (assuming s t)
+  assumed s t h e = (vars-assuming s t, assuming-sorted g s t h e)
+
+  introduced : (s : SequentTree) (a b : TermTree) → is_sorted g s ≡ true → suited g s a ≡ true → suited g s b ≡ true → Sorted s (assuming (asking s b) a)
+  introduced s a b h i j =
+      (vars-assuming (asking s b) a ∙ vars-asking s b, assuming-sorted g (asking s b) a (asking-sorted g s b h j) (asking-suits g s b a i))
+
+  parted : (s : SequentTree) (a b : TermTree) → is_sorted g s ≡ true → suited g s a ≡ true → suited g s b ≡ true → Sorted s (assuming (assuming s a) b)
+  parted s a b h i j =
+      (vars-assuming (assuming s a) b ∙ vars-assuming s a, assuming-sorted g (assuming s a) b (assuming-sorted g s a h i) (assuming-suits g s a b j))
+
+  hyp-sorts : (s : SequentTree) (x y : Option TermTree) → Sorts s (hyp_row x y)
+  hyp-sorts s (Some a) (Some b) = none_left s _
+  hyp-sorts s None None = nothing s
+  hyp-sorts s None (Some b) = nothing s
+  hyp-sorts s (Some a) None = nothing s
+
+  impi-sorts : (s : SequentTree) (o : Two) → is_sorted g s ≡ true → binary_in 6 (goal_of s) ≡ o → Sorts s (impi_row s o)
+  impi-sorts s no_two h q = nothing s
+  impi-sorts s (two a b) h q =
+      let e = goal-suited g s (binary_tree 6 a b) h (binary_in_is 6 (goal_of s) a b q) in
+      one s (assuming (asking s b) a) (introduced s a b h (implication-first g s a b e) (implication-second g s a b e))
+
+  noti-sorts : (s : SequentTree) (o : Option TermTree) → is_sorted g s ≡ true → unary_in 3 (goal_of s) ≡ o → Sorts s (noti_row s o)
+  noti-sorts s None h q = nothing s
+  noti-sorts s (Some a) h q =
+      let e = goal-suited g s (unary_tree 3 a) h (unary_in_is 3 (goal_of s) a q) in
+      one s (assuming (asking s falsity) a) (introduced s a falsity h (negated g s a e) (falsity-suited g s ok))
+
+  andi-sorts : (s : SequentTree) (o : Two) → is_sorted g s ≡ true → binary_in 4 (goal_of s) ≡ o → Sorts s (andi_row s o)
+  andi-sorts s no_two h q = nothing s
+  andi-sorts s (two a b) h q =
+      let e = goal-suited g s (binary_tree 4 a b) h (binary_in_is 4 (goal_of s) a b q) in
+      both s (asking s a) (asking s b) (asked s a h (conjunct-first g s a b e)) (asked s b h (conjunct-second g s a b e))
+
+  orl-sorts : (s : SequentTree) (o : Two) → is_sorted g s ≡ true → binary_in 5 (goal_of s) ≡ o → Sorts s (orl_row s o)
+  orl-sorts s no_two h q = nothing s
+  orl-sorts s (two a b) h q =
+      let e = goal-suited g s (binary_tree 5 a b) h (binary_in_is 5 (goal_of s) a b q) in
+      one s (asking s a) (asked s a h (disjunct-first g s a b e))
+
+  orr-sorts : (s : SequentTree) (o : Two) → is_sorted g s ≡ true → binary_in 5 (goal_of s) ≡ o → Sorts s (orr_row s o)
+  orr-sorts s no_two h q = nothing s
+  orr-sorts s (two a b) h q =
+      let e = goal-suited g s (binary_tree 5 a b) h (binary_in_is 5 (goal_of s) a b q) in
+      one s (asking s b) (asked s b h (disjunct-second g s a b e))
+
+  ande-sorts : (s : SequentTree) (k : ℕ) (o : Two) → is_sorted g s ≡ true → binary_in 4 (hyp_of s k) ≡ o → Sorts s (ande_row s o)
+  ande-sorts s k no_two h q = nothing s
+  ande-sorts s k (two a b) h q =
+      let e = hyp-suited g s k (binary_tree 4 a b) h (binary_in_is 4 (hyp_of s k) a b q) in
+      one s (assuming (assuming s a) b) (parted s a b h (conjunct-first g s a b e) (conjunct-second g s a b e))
+
+  ore-sorts : (s : SequentTree) (k : ℕ) (o : Two) → is_sorted g s ≡ true → binary_in 5 (hyp_of s k) ≡ o → Sorts s (ore_row s o)
+  ore-sorts s k no_two h q = nothing s
+  ore-sorts s k (two a b) h q =
+      let e = hyp-suited g s k (binary_tree 5 a b) h (binary_in_is 5 (hyp_of s k) a b q) in
+      both s (assuming s a) (assuming s b) (assumed s a h (disjunct-first g s a b e)) (assumed s b h (disjunct-second g s a b e))
+
+  impe-sorts : (s : SequentTree) (k : ℕ) (o : Two) → is_sorted g s ≡ true → binary_in 6 (hyp_of s k) ≡ o → Sorts s (impe_row s o)
+  impe-sorts s k no_two h q = nothing s
+  impe-sorts s k (two a b) h q =
+      let e = hyp-suited g s k (binary_tree 6 a b) h (binary_in_is 6 (hyp_of s k) a b q) in
+      both s (asking s a) (assuming s b) (asked s a h (implication-first g s a b e)) (assumed s b h (implication-second g s a b e))
+
+  note-sorts : (s : SequentTree) (k : ℕ) (o : Option TermTree) → is_sorted g s ≡ true → unary_in 3 (hyp_of s k) ≡ o → Sorts s (note_row s o)
+  note-sorts s k None h q = nothing s
+  note-sorts s k (Some a) h q =
+      let e = hyp-suited g s k (unary_tree 3 a) h (unary_in_is 3 (hyp_of s k) a q) in
+      one s (asking s a) (asked s a h (negated g s a e))
+
+  drop-sorts : (s : SequentTree) (k : ℕ) → is_sorted g s ≡ true → Sorts s (drop_row s k)
+  drop-sorts s k h = go (nat_lt k (length (hyps_of s)))
+    where
+      go : (b : Bool) → Sorts s (cond b (Some (with_hyps (without (hyps_of s) k) s ∷ [])) None)
+      go true = one s (with_hyps (without (hyps_of s) k) s) (vars-with s (without (hyps_of s) k), without-sorted g s k h)
+      go false = nothing s
+
+  pure_goal : (t : TermTree) → is_formula g t ≡ true → is_trace_formula g (pure_or_false t) ≡ true
+  pure_goal t h = go (is_pure t) refl
+    where
+      go : (b : Bool) → is_pure t ≡ b → is_trace_formula g (cond b t falsity) ≡ true
+      go true e = and_both (is_formula g t) (is_pure t) h e
+      go false e = and_both (is_formula g falsity) true (falsity-formula g ok) refl
+
+  trace-sorts : (s : SequentTree) → is_sorted g s ≡ true → Sorts s (trace_row s)
+  trace-sorts (trace vars H c) h = nothing (trace vars H c)
+  trace-sorts (local side vars H c) h =
+      let p = and_split (list_all (is_local_formula g side) H) _ h in
+      one (local side vars H c) (trace vars (pure_ones H) (pure_or_false c))
+      (refl, and_both (list_all (is_trace_formula g) (pure_ones H)) _ (pure_ones-sorted g (local side vars H c) H p.0) (pure_goal c (suited-formula g (local side vars H c) c p.1)))
+  trace-sorts (equiv vars H known items) h =
+      let p = and_split (list_all (is_trace_formula g) H) _ h in
+      one (equiv vars H known items) (trace vars (pure_ones H) falsity)
+      (refl, and_both (list_all (is_trace_formula g) (pure_ones H)) _ (pure_ones-sorted g (equiv vars H known items) H p.0) (and_both (is_formula g falsity) true (falsity-formula g ok) refl))
+
+  refl-sorts : (s : SequentTree) → Sorts s (refl_row s)
+  refl-sorts (trace vars H c) = none_left (trace vars H c) _
+  refl-sorts (local side vars H c) = none_left (local side vars H c) _
+  refl-sorts (equiv vars H known items) = nothing (equiv vars H known items)
+
+  sym-sorts : (s : SequentTree) (o : Two) → is_sorted g s ≡ true → binary_in 7 (local_goal_of s) ≡ o → Sorts s (sym_row s o)
+  unfolding local_goal_of
+  sym-sorts s no_two h q = nothing s
+  sym-sorts (local side vars H c) (two u v) h q =
+      let y : Some c ≡ Some (binary_tree 7 u v) = binary_in_is 7 (Some c) u v q in
+      let p = and_split (list_all (is_local_formula g side) H) _ h in
+      let z : c ≡ equality u v = cc in
+      let e : suited g (local side vars H c) (equality u v) ≡ true = ap (is_local_formula g side) (sym z) ∙ p.1 in
+      one (local side vars H c) (asking (local side vars H c) (equality v u)) (asked (local side vars H c) (equality v u) h (swapped-suited g (local side vars H c) u v e))
+  sym-sorts (trace vars H c) (two u v) h q = let y : None ≡ Some (binary_tree 7 u v) = binary_in_is 7 None u v q in absurd (cc)
+  sym-sorts (equiv vars H known items) (two u v) h q = let y : None ≡ Some (binary_tree 7 u v) = binary_in_is 7 None u v q in absurd (cc)
+
+  pub row-sorts : (x : Step) (s : SequentTree) (env : EnvTree) (goal : ℕ) → is_sorted g s ≡ true → Sorts s (logic_row x s env goal)
+  unfolding logic_row
+  row-sorts (step.Hyp k) s env goal h = hyp-sorts s (goal_of s) (hyp_of s k)
+  row-sorts step.True s env goal h = none_left s _
+  row-sorts (step.Absurd k) s env goal h = none_left s _
+  row-sorts step.Impi s env goal h = impi-sorts s (binary_in 6 (goal_of s)) h refl
+  row-sorts step.Noti s env goal h = noti-sorts s (unary_in 3 (goal_of s)) h refl
+  row-sorts step.Andi s env goal h = andi-sorts s (binary_in 4 (goal_of s)) h refl
+  row-sorts step.Orl s env goal h = orl-sorts s (binary_in 5 (goal_of s)) h refl
+  row-sorts step.Orr s env goal h = orr-sorts s (binary_in 5 (goal_of s)) h refl
+  row-sorts (step.Ande k) s env goal h = ande-sorts s k (binary_in 4 (hyp_of s k)) h refl
+  row-sorts (step.Ore k) s env goal h = ore-sorts s k (binary_in 5 (hyp_of s k)) h refl
+  row-sorts (step.Impe k) s env goal h = impe-sorts s k (binary_in 6 (hyp_of s k)) h refl
+  row-sorts (step.Note k) s env goal h = note-sorts s k (unary_in 3 (hyp_of s k)) h refl
+  row-sorts (step.Drop k) s env goal h = drop-sorts s k h
+  row-sorts step.Trace s env goal h = trace-sorts s h
+  row-sorts step.Refl s env goal h = refl-sorts s
+  row-sorts step.Sym s env goal h = sym-sorts s (binary_in 7 (local_goal_of s)) h refl
+  row-sorts _ s env goal h = nothing s
+
+-- ---- well-formed for a goal
+
+fit-at : (ps : List SequentTree) → all_fit ps ≡ true → Each (λ p. fits p ≡ true) ps
+fit-at [] h = each_none (λ p. fits p ≡ true)
+fit-at (q ∷ qs) h = let k = and_split (fits q) (all_fit qs) h in each_cons q qs (λ p. fits p ≡ true) k.0 (fit-at qs k.1)
+
+-- with the goal's system and its count of schema variables
+premise-of : (e : EnvTree) (actions : Option (List ActionTree)) (n : ℕ) (x : Step) (s : SequentTree) (env : EnvTree) (goal : ℕ) (ps : List SequentTree)
+    → are_functions e.funs ≡ true → is_sequent_of e actions n s ≡ true → logic_row x s env goal ≡ Some ps → all_fit ps ≡ true → Each (λ p. is_sequent_of e actions n p ≡ true) ps
+premise-of e None n x s env goal ps ok h r f = absurd (cc)
+premise-of e (Some actions) n x s env goal ps ok h r f =
+    let g : Signature = signature_of e actions n (vars_of s) in
+    let v = and_split (list_all is_binder_sort (vars_of s)) _ h in
+    let w = and_split (is_sorted (signature_of e actions n (vars_of s)) s) (fits s) v.1 in
+    λ p i. judged_premise p (row-sorts (signature_of e actions n (vars_of s)) ok x s env goal w.0 ps r p i) (fit-at ps f p i) v.0
+  where
+    judged_premise : (p : SequentTree) → (vars_of p ≡ vars_of s) × (is_sorted (signature_of e actions n (vars_of s)) p ≡ true) → fits p ≡ true
+        → list_all is_binder_sort (vars_of s) ≡ true → is_sequent_of e (Some actions) n p ≡ true
+    judged_premise p (q, r) fit binders =
+        and_both (list_all is_binder_sort (vars_of p)) _ (ap (list_all is_binder_sort) q ∙ binders)
+        (and_both (is_sorted (signature_of e actions n (vars_of p)) p) (fits p) (ap (λ vs. is_sorted (signature_of e actions n vs) p) q ∙ r) fit)
+
+pub premise_for : (e : EnvTree) (g : Option StmtTree) (x : Step) (s : SequentTree) (env : EnvTree) (goal : ℕ) (ps : List SequentTree)
+    → are_functions e.funs ≡ true → is_well_formed_for e g s ≡ true → logic_row x s env goal ≡ Some ps → all_fit ps ≡ true → Each (λ p. is_well_formed_for e g p ≡ true) ps
+premise_for e None x s env goal ps ok h r f = absurd (cc)
+premise_for e (Some st) x s env goal ps ok h r f = premise-of e (slice_get e.systems st.system) (length st.schemas) x s env goal ps ok h r f
+
+-- each premise of a well-formed sequent is well-formed
+pub premises_well_formed : (x : Step) (s : SequentTree) (env : EnvTree) (goal : ℕ) (ps : List SequentTree)
+    → are_functions env.funs ≡ true → logic_premises x s env goal ≡ Ok ps → is_well_formed env goal s ≡ true → Each (λ p. is_well_formed env goal p ≡ true) ps
+unfolding within_limits logic_premises
+premises_well_formed x s env goal ps ok e h = go (logic_row x s env goal) refl e
+  where
+    go : (o : Option (List SequentTree)) → logic_row x s env goal ≡ o → judged o ≡ Ok ps → Each (λ p. is_well_formed env goal p ≡ true) ps
+    go None f k = absurd (cc)
+    go (Some qs) f k = within (all_fit qs) refl k
+      where
+        within : (b : Bool) → all_fit qs ≡ b → cond b (Ok qs) (Err TooLarge) ≡ Ok ps → Each (λ p. is_well_formed env goal p ≡ true) ps
+        within true i j =
+            let same : qs ≡ ps = cc in
+            premise_for env (slice_get env.stmts goal) x s env goal ps ok h (f ∙ ap Some same) (ap all_fit (sym same) ∙ i)
+        within false i j = absurd (cc)
