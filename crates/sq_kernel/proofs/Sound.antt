@@ -1,18 +1,24 @@
 -- What closing steps mean: the verdict is Closed exactly there, and the goal holds.
-use Rattle.std.proofs.Common.{◌≡◌, ◌↔◌, ℕ, suc, refl, sym, ap, ◌∙◌, List, [], ◌∷◌, ◌++◌, Result, Ok, Err}
+use Rattle.std.proofs.Common.{◌≡◌, ◌↔◌, ◌<◌, ℕ, zero, suc, refl, sym, ap, ◌∙◌, List, [], ◌∷◌, ◌++◌, length, get_or, Some, Result, Ok, Err, Bool, true, arith}
+use Rattle.std.specs.Prelude.{slice_get}
+use Rattle.std.specs.List.{list_all}
 use Rattle.sq_term.specs.declared.model.Model.{Model}
-use Rattle.sq_term.specs.Lists.{Each, here}
+use Rattle.sq_term.specs.Lists.{Each, here, there}
 use Rattle.sq_term.specs.Models.{IsTraceModel}
-use Rattle.sq_term.proofs.Members.{member-append_left, member-append_right, each_cons, each_none}
-use Rattle.sq_system.specs.Environments.{EnvTree}
+use Rattle.sq_term.proofs.Members.{member-append_left, member-append_right, each-append, each_cons, each_none, each_single}
+use Rattle.sq_term.proofs.BoolTests.{and_split}
+use Rattle.sq_system.specs.Environments.{StmtTree, EnvTree}
 use Rattle.sq_system.specs.Sequents.{SequentTree}
+use Rattle.sq_system.specs.WellFormed.{is_sequent_of, is_well_formed_for, is_well_formed, is_statement, is_environment}
+use Rattle.sq_system.proofs.EnvLaws.{environment_parts}
 use Rattle.sq_ground.specs.Holding.{HoldsAt}
 use Rattle.sq_ground.specs.Theories.{theory_of, HoldsEverywhere}
-use Rattle.sq_ground.specs.Usable.{system_of, statement_at}
+use Rattle.sq_ground.specs.Usable.{system_of, no_statement, statement_at}
 use Rattle.sq_sequent.specs.declared.fault.RuleFault.{RuleFault}
 use Rattle.sq_sequent.specs.declared.step.Step.{Step}
 use Rattle.sq_sequent.specs.Soundness.{EarlierHoldAt, EarlierHold, PremisesSuffice}
 use Rattle.sq_sequent.proofs.LogicSound.{logic_sound}
+use Rattle.sq_sequent.proofs.Preserved.{premises_well_formed}
 use Rattle.sq_kernel.specs.declared.fault.Verdict.{Verdict}
 use Rattle.sq_kernel.specs.declared.fault.Verdict.TheVariants.{Closed, Rejected, Left}
 use Rattle.sq_kernel.specs.Closing.{calculus, in_front, advanced, after, verdict_from, verdict_of, Closes, ClosesGoal}
@@ -41,18 +47,42 @@ module _ (env : EnvTree) (g : ℕ) where
   closed_exactly steps =
       (closed_closes 0 steps ((statement_at env g).start ∷ []), closes_closed 0 steps ((statement_at env g).start ∷ []))
 
-  -- each sequent of a stack that steps close holds
+-- ---- the sequents of a stack are well-formed
+
+place : {A : Type 0} (p : A → Bool) (xs : List A) (k : ℕ) (d : A) → list_all p xs ≡ true → k < length xs → (slice_get xs k ≡ Some (get_or xs k d)) × (p (get_or xs k d) ≡ true)
+place p [] k d h l = absurd (omega arith)
+place p (x ∷ xs) zero d h l = (refl, (and_split (p x) (list_all p xs) h).0)
+place p (x ∷ xs) (suc k) d h l = place p xs k d (and_split (p x) (list_all p xs) h).1 (omega arith)
+
+module _ (env : EnvTree) (kept : is_environment env ≡ true) (g : ℕ) where
+  abbrev WellFormed : SequentTree → Type 0
+  WellFormed s = is_well_formed env g s ≡ true
+
+  -- the starting sequent of a statement
+  start_well_formed : g < length env.stmts → WellFormed (statement_at env g).start
+  start_well_formed l =
+      let p = place (is_statement env) env.stmts g no_statement (environment_parts env kept).2 l in
+      let st : StmtTree = statement_at env g in
+      ap (λ o. is_well_formed_for env o st.start) p.0 ∙ (and_split (is_sequent_of env (slice_get env.systems st.system) (length st.schemas) st.start) _ p.1).0
+
+  -- the premises and the further sequents
+  replaced_well_formed : (x : Step) (s : SequentTree) (rest ps : List SequentTree) → calculus x s env g ≡ Ok ps → Each WellFormed (s ∷ rest) → Each WellFormed (ps ++ rest)
+  replaced_well_formed x s rest ps e w =
+      each-append ps rest WellFormed (premises_well_formed x s env g ps (environment_parts env kept).0 e (w s here)) (λ y i. w y (there i))
+
+  -- each sequent of a well-formed stack that steps close holds
   pub stack_holds : (m : Model) → IsTraceModel (system_of env g) m → EarlierHoldAt env g m
-      → (steps : List Step) (stack : List SequentTree) → Closes env g steps stack → Each (HoldsAt (theory_of env g m)) stack
-  stack_holds m trace earlier [] [] c = each_none (HoldsAt (theory_of env g m))
-  stack_holds m trace earlier [] (s ∷ rest) c = absurd (cc)
-  stack_holds m trace earlier (x ∷ steps) [] c = absurd c
-  stack_holds m trace earlier (x ∷ steps) (s ∷ rest) c =
-      let all : Each (HoldsAt (theory_of env g m)) (c.0 ++ rest) = stack_holds m trace earlier steps (c.0 ++ rest) c.2 in
+      → (steps : List Step) (stack : List SequentTree) → Each WellFormed stack → Closes env g steps stack → Each (HoldsAt (theory_of env g m)) stack
+  stack_holds m trace earlier [] [] w c = each_none (HoldsAt (theory_of env g m))
+  stack_holds m trace earlier [] (s ∷ rest) w c = absurd (cc)
+  stack_holds m trace earlier (x ∷ steps) [] w c = absurd c
+  stack_holds m trace earlier (x ∷ steps) (s ∷ rest) w c =
+      let all : Each (HoldsAt (theory_of env g m)) (c.0 ++ rest) = stack_holds m trace earlier steps (c.0 ++ rest) (replaced_well_formed x s rest c.0 c.1 w) c.2 in
       each_cons s rest (HoldsAt (theory_of env g m))
-      (logic_sound x s env g c.0 c.1 m trace earlier (λ y i. all y (member-append_left c.0 rest y i)))
+      (logic_sound x s env g c.0 c.1 (w s here) m trace earlier (λ y i. all y (member-append_left c.0 rest y i)))
       (λ y i. all y (member-append_right c.0 rest y i))
 
-  pub goal_holds : (steps : List Step) → verdict_of steps env g ≡ Closed → EarlierHold env g → HoldsEverywhere env g
-  goal_holds steps e earlier m trace =
-      stack_holds m trace (earlier m trace) steps ((statement_at env g).start ∷ []) (closed_closes 0 steps ((statement_at env g).start ∷ []) e) (statement_at env g).start here
+  pub goal_holds : g < length env.stmts → (steps : List Step) → verdict_of steps env g ≡ Closed → EarlierHold env g → HoldsEverywhere env g
+  goal_holds l steps e earlier m trace =
+      let start : SequentTree = (statement_at env g).start in
+      stack_holds m trace (earlier m trace) steps (start ∷ []) (each_single start WellFormed (start_well_formed l)) (closed_closes env g 0 steps (start ∷ []) e) start here

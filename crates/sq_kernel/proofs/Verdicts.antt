@@ -1,10 +1,11 @@
 -- The verdict on a list of steps, step by step.
-use Rattle.std.proofs.Common.{◌≡◌, ◌≢◌, ◌↔◌, ℕ, suc, ◌+◌, drop, refl, sym, ap, ◌∙◌, subst, List, [], ◌∷◌, Option, Some, None, Result, Ok, Err, IfOk, arith}
+use Rattle.std.proofs.Common.{◌≡◌, ◌≢◌, ◌↔◌, ◌<◌, ℕ, suc, ◌+◌, length, true, drop, refl, sym, ap, ◌∙◌, subst, List, [], ◌∷◌, Option, Some, None, Result, Ok, Err, IfOk, arith}
 use Rattle.sq_base.specs.declared.memory.NoMemory.{NoMemory}
 use Rattle.sq_base.specs.Gives.{Gives}
 use Rattle.sq_ground.specs.Theories.{HoldsEverywhere}
 use Rattle.sq_system.specs.Environments.{EnvTree}
 use Rattle.sq_system.specs.Sequents.{SequentTree}
+use Rattle.sq_system.specs.WellFormed.{is_environment}
 use Rattle.sq_sequent.specs.declared.fault.RuleFault.{RuleFault}
 use Rattle.sq_sequent.specs.declared.fault.RuleFault.TheVariants as rule
 use Rattle.sq_sequent.specs.declared.step.Step.{Step}
@@ -52,6 +53,7 @@ module _ (env : EnvTree) (g : ℕ) where
   closed_of steps (Ok v) e = subst (λ w. (w ≡ Closed) ↔ ClosesGoal env g steps) (sym e) (closed_exactly env g steps)
   closed_of steps (Err m) e = tt
 
-  pub sound_of : (steps : List Step) (r : Result Verdict NoMemory) → IfOk r (λ v. v ≡ verdict_of steps env g) → IfOk r (λ v. v ≡ Closed → EarlierHold env g → HoldsEverywhere env g)
-  sound_of steps (Ok v) e = λ is. goal_holds env g steps (sym e ∙ is)
-  sound_of steps (Err m) e = tt
+  pub sound_of : is_environment env ≡ true → g < length env.stmts → (steps : List Step) (r : Result Verdict NoMemory) → IfOk r (λ v. v ≡ verdict_of steps env g)
+      → IfOk r (λ v. v ≡ Closed → EarlierHold env g → HoldsEverywhere env g)
+  sound_of kept l steps (Ok v) e = λ is. goal_holds env kept g l steps (sym e ∙ is)
+  sound_of kept l steps (Err m) e = tt

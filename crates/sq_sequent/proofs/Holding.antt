@@ -1,5 +1,5 @@
 -- How a sequent holds where its premises do, in the forms that rows share.
-use Rattle.std.proofs.Common.{◌≡◌, ◌⊎◌, inl, inr, sym, subst, List, [], ◌∷◌, ◌++◌, map, Some, Bool, true, false}
+use Rattle.std.proofs.Common.{◌≡◌, ◌⊎◌, inl, inr, sym, subst, List, [], ◌∷◌, ◌++◌, map, Option, Some, None, Bool, true, false}
 use Rattle.sq_term.specs.Lists.{Member, here, there, Each}
 use Rattle.sq_term.proofs.Members.{each-map, each-push, each_none, each_cons, each_single, member-map}
 use Rattle.sq_term.specs.Syntax.{TermTree}
@@ -151,3 +151,10 @@ module _ (th : Theory) where
   -- a hypothesis is true where all are
   pub hyp_true : (H : List TermTree) (h : TermTree) → Member H h → (left : Bool) (a : Assignment) (v : Ground → Bool) → AllTrueIn left a v H → TrueIn left a v h
   hyp_true H h i left a v all = all (translate (world_at th left) a [] h) (member-map (translate (world_at th left) a []) H h i)
+
+  -- where the row has premises that hold, the sequent holds
+  abbrev pub Keeps : SequentTree → Option (List SequentTree) → Type 0
+  Keeps s row = (ps : List SequentTree) → row ≡ Some ps → Each (HoldsAt th) ps → HoldsAt th s
+
+  pub no_row : (s : SequentTree) → Keeps s None
+  no_row s ps e h = absurd (cc)

@@ -33,7 +33,7 @@ use Rattle.sq_sequent.specs.Soundness.{PremisesSuffice}
 use Rattle.sq_sequent.proofs.Inversion.{binary_tree, unary_tree, binary_in_is, unary_in_is, constant_in_is, equation_is_of_messages, equation_is_of_times, equation_is_of_indices, get_member, member-without, member-pure}
 use Rattle.sq_sequent.proofs.Purity.{pure_alone}
 use Rattle.sq_sequent.proofs.EqualityRules as equals
-use Rattle.sq_sequent.proofs.Holding.{first_of, second_of, AllTrueIn, TrueIn, assume_both_sound, absurd_sound, cut_sound, contrary_sound, cases_sound, goal_sound, asked_sound, both_asked_sound, intro_sound, hyp_true}
+use Rattle.sq_sequent.proofs.Holding.{first_of, second_of, Keeps, no_row, AllTrueIn, TrueIn, assume_both_sound, absurd_sound, cut_sound, contrary_sound, cases_sound, goal_sound, asked_sound, both_asked_sound, intro_sound, hyp_true}
 
 same_time : (t : Option ℕ) → is_same_time t t ≡ true
 same_time (Some p) = number_itself p
@@ -44,26 +44,19 @@ true_of true v e = refl
 true_of false v e = absurd (cc)
 
 module _ (th : Theory) where
-  -- the row keeps what holds
-  abbrev pub Keeps : SequentTree → Option (List SequentTree) → Type 0
-  Keeps s row = (ps : List SequentTree) → row ≡ Some ps → Each (HoldsAt th) ps → HoldsAt th s
-
-  no_row : (s : SequentTree) → Keeps s None
-  no_row s ps e h = absurd (cc)
-
-  closing_sound : (s : SequentTree) (b : Bool) → (b ≡ true → HoldsAt th s) → Keeps s (closing_row b)
+  closing_sound : (s : SequentTree) (b : Bool) → (b ≡ true → HoldsAt th s) → Keeps th s (closing_row b)
   closing_sound s true h ps e p = h refl
   closing_sound s false h ps e p = absurd (cc)
 
-  hyp_sound : (s : SequentTree) (g h : Option TermTree) (k : ℕ) → goal_of s ≡ g → hyp_of s k ≡ h → Keeps s (hyp_row g h)
+  hyp_sound : (s : SequentTree) (g h : Option TermTree) (k : ℕ) → goal_of s ≡ g → hyp_of s k ≡ h → Keeps th s (hyp_row g h)
   unfolding hyp_of
   hyp_sound s (Some g) (Some h) k eg eh = closing_sound s (is_same_tree g h)
       (λ q. let x : g ≡ h = (is_same_tree-decides g h).0 q in
       goal_sound th s g eg (λ left a fits v all. subst (λ t. TrueIn th left a v t) (sym x) (hyp_true th (hyps_of s) h (get_member (hyps_of s) k h eh) left a v all)))
-  hyp_sound s None h k eg eh = no_row s
-  hyp_sound s (Some g) None k eg eh = no_row s
+  hyp_sound s None h k eg eh = no_row th s
+  hyp_sound s (Some g) None k eg eh = no_row th s
 
-  true_sound : (s : SequentTree) → Keeps s (closing_row (constant_in 1 (goal_of s)))
+  true_sound : (s : SequentTree) → Keeps th s (closing_row (constant_in 1 (goal_of s)))
   true_sound s = closing_sound s (constant_in 1 (goal_of s)) (λ q. goal_sound th s _ (constant_in_is 1 (goal_of s) q) (λ left a f v all. refl))
 
   -- hypothesis k is true where all are
@@ -71,61 +64,61 @@ module _ (th : Theory) where
   unfolding hyp_of
   at_hyp s k h e left a v all = hyp_true th (hyps_of s) h (get_member (hyps_of s) k h e) left a v all
 
-  absurd_row_sound : (s : SequentTree) (k : ℕ) → Keeps s (closing_row (constant_in 2 (hyp_of s k)))
+  absurd_row_sound : (s : SequentTree) (k : ℕ) → Keeps th s (closing_row (constant_in 2 (hyp_of s k)))
   absurd_row_sound s k = closing_sound s (constant_in 2 (hyp_of s k)) (λ q. absurd_sound th s (λ left a f v all. at_hyp s k falsity (constant_in_is 2 (hyp_of s k) q) left a v all))
 
-  impi_sound : (s : SequentTree) (o : Two) → binary_in 6 (goal_of s) ≡ o → Keeps s (impi_row s o)
-  impi_sound s no_two q = no_row s
+  impi_sound : (s : SequentTree) (o : Two) → binary_in 6 (goal_of s) ≡ o → Keeps th s (impi_row s o)
+  impi_sound s no_two q = no_row th s
   impi_sound s (two a b) q = λ ps e h.
       intro_sound th s (binary_tree 6 a b) a b (binary_in_is 6 (goal_of s) a b q) (λ left w f v all i. if_from _ _ i)
       (first_of (assuming (asking s b) a) [] ps (HoldsAt th) e h)
 
-  noti_sound : (s : SequentTree) (o : Option TermTree) → unary_in 3 (goal_of s) ≡ o → Keeps s (noti_row s o)
-  noti_sound s None q = no_row s
+  noti_sound : (s : SequentTree) (o : Option TermTree) → unary_in 3 (goal_of s) ≡ o → Keeps th s (noti_row s o)
+  noti_sound s None q = no_row th s
   noti_sound s (Some a) q = λ ps e h.
       intro_sound th s (unary_tree 3 a) a falsity (unary_in_is 3 (goal_of s) a q) (λ left w f v all i. not_from _ i)
       (first_of (assuming (asking s falsity) a) [] ps (HoldsAt th) e h)
 
-  andi_sound : (s : SequentTree) (o : Two) → binary_in 4 (goal_of s) ≡ o → Keeps s (andi_row s o)
-  andi_sound s no_two q = no_row s
+  andi_sound : (s : SequentTree) (o : Two) → binary_in 4 (goal_of s) ≡ o → Keeps th s (andi_row s o)
+  andi_sound s no_two q = no_row th s
   andi_sound s (two a b) q = λ ps e h.
       both_asked_sound th s (binary_tree 4 a b) a b (binary_in_is 4 (goal_of s) a b q) (λ left w f v all i j. and_from _ _ i j)
       (first_of (asking s a) (asking s b ∷ []) ps (HoldsAt th) e h) (second_of (asking s a) (asking s b) [] ps (HoldsAt th) e h)
 
-  orl_sound : (s : SequentTree) (o : Two) → binary_in 5 (goal_of s) ≡ o → Keeps s (orl_row s o)
-  orl_sound s no_two q = no_row s
+  orl_sound : (s : SequentTree) (o : Two) → binary_in 5 (goal_of s) ≡ o → Keeps th s (orl_row s o)
+  orl_sound s no_two q = no_row th s
   orl_sound s (two a b) q = λ ps e h.
       asked_sound th s (binary_tree 5 a b) a (binary_in_is 5 (goal_of s) a b q) (λ left w f v all i. or_left _ _ i) (first_of (asking s a) [] ps (HoldsAt th) e h)
 
-  orr_sound : (s : SequentTree) (o : Two) → binary_in 5 (goal_of s) ≡ o → Keeps s (orr_row s o)
-  orr_sound s no_two q = no_row s
+  orr_sound : (s : SequentTree) (o : Two) → binary_in 5 (goal_of s) ≡ o → Keeps th s (orr_row s o)
+  orr_sound s no_two q = no_row th s
   orr_sound s (two a b) q = λ ps e h.
       asked_sound th s (binary_tree 5 a b) b (binary_in_is 5 (goal_of s) a b q) (λ left w f v all i. or_right _ _ i) (first_of (asking s b) [] ps (HoldsAt th) e h)
 
-  ande_sound : (s : SequentTree) (k : ℕ) (o : Two) → binary_in 4 (hyp_of s k) ≡ o → Keeps s (ande_row s o)
-  ande_sound s k no_two q = no_row s
+  ande_sound : (s : SequentTree) (k : ℕ) (o : Two) → binary_in 4 (hyp_of s k) ≡ o → Keeps th s (ande_row s o)
+  ande_sound s k no_two q = no_row th s
   ande_sound s k (two a b) q = λ ps e h.
       assume_both_sound th s a b
       (λ left w f v all. and_left _ _ (at_hyp s k (binary_tree 4 a b) (binary_in_is 4 (hyp_of s k) a b q) left w v all))
       (λ left w f v all. and_right _ _ (at_hyp s k (binary_tree 4 a b) (binary_in_is 4 (hyp_of s k) a b q) left w v all))
       (first_of (assuming (assuming s a) b) [] ps (HoldsAt th) e h)
 
-  ore_sound : (s : SequentTree) (k : ℕ) (o : Two) → binary_in 5 (hyp_of s k) ≡ o → Keeps s (ore_row s o)
-  ore_sound s k no_two q = no_row s
+  ore_sound : (s : SequentTree) (k : ℕ) (o : Two) → binary_in 5 (hyp_of s k) ≡ o → Keeps th s (ore_row s o)
+  ore_sound s k no_two q = no_row th s
   ore_sound s k (two a b) q = λ ps e h.
       cases_sound th s a b
       (λ left w f v all. or_cases _ _ (at_hyp s k (binary_tree 5 a b) (binary_in_is 5 (hyp_of s k) a b q) left w v all) (λ i. inl i) (λ j. inr j))
       (first_of (assuming s a) (assuming s b ∷ []) ps (HoldsAt th) e h) (second_of (assuming s a) (assuming s b) [] ps (HoldsAt th) e h)
 
-  impe_sound : (s : SequentTree) (k : ℕ) (o : Two) → binary_in 6 (hyp_of s k) ≡ o → Keeps s (impe_row s o)
-  impe_sound s k no_two q = no_row s
+  impe_sound : (s : SequentTree) (k : ℕ) (o : Two) → binary_in 6 (hyp_of s k) ≡ o → Keeps th s (impe_row s o)
+  impe_sound s k no_two q = no_row th s
   impe_sound s k (two a b) q = λ ps e h.
       cut_sound th s a b
       (λ left w f v all i. if_to _ _ (at_hyp s k (binary_tree 6 a b) (binary_in_is 6 (hyp_of s k) a b q) left w v all) i)
       (first_of (asking s a) (assuming s b ∷ []) ps (HoldsAt th) e h) (second_of (asking s a) (assuming s b) [] ps (HoldsAt th) e h)
 
-  note_sound : (s : SequentTree) (k : ℕ) (o : Option TermTree) → unary_in 3 (hyp_of s k) ≡ o → Keeps s (note_row s o)
-  note_sound s k None q = no_row s
+  note_sound : (s : SequentTree) (k : ℕ) (o : Option TermTree) → unary_in 3 (hyp_of s k) ≡ o → Keeps th s (note_row s o)
+  note_sound s k None q = no_row th s
   note_sound s k (Some a) q = λ ps e h.
       contrary_sound th s a
       (λ left w f v all i. not_to _ (at_hyp s k (unary_tree 3 a) (unary_in_is 3 (hyp_of s k) a q) left w v all) i)
@@ -141,12 +134,12 @@ module _ (th : Theory) where
       (p left m a f)
   fewer_sound (equiv vars H known items) G sub p = λ a f h k. p a f (λ x i. h x (sub x i)) k
 
-  drop_sound : (s : SequentTree) (k : ℕ) → Keeps s (drop_row s k)
+  drop_sound : (s : SequentTree) (k : ℕ) → Keeps th s (drop_row s k)
   drop_sound s k = go (nat_lt k (length (hyps_of s)))
     where
-      go : (b : Bool) → Keeps s (cond b (Some (with_hyps (without (hyps_of s) k) s ∷ [])) None)
+      go : (b : Bool) → Keeps th s (cond b (Some (with_hyps (without (hyps_of s) k) s ∷ [])) None)
       go true = λ ps e h. fewer_sound s (without (hyps_of s) k) (λ x i. member-without (hyps_of s) k x i) (first_of (with_hyps (without (hyps_of s) k) s) [] ps (HoldsAt th) e h)
-      go false = no_row s
+      go false = no_row th s
 
   -- a trace formula is true on a side and under a valuation where it is plainly true, and the other way round
   plainly : (left : Bool) (a : Assignment) (v : Ground → Bool) (t : TermTree) → is_pure t ≡ true → TrueIn th left a v t → IsTrueFormula th a t
@@ -165,8 +158,8 @@ module _ (th : Theory) where
       go true e h = from_plain left a v g e h
       go false e h = let x : false ≡ true = h in absurd (cc)
 
-  trace_sound : (s : SequentTree) → Keeps s (trace_row s)
-  trace_sound (trace vars H g) = no_row (trace vars H g)
+  trace_sound : (s : SequentTree) → Keeps th s (trace_row s)
+  trace_sound (trace vars H g) = no_row th (trace vars H g)
   trace_sound (local side vars H g) = λ ps e h left m a f.
       let p = first_of (trace vars (pure_ones H) (pure_or_false g)) [] ps (HoldsAt th) e h in
       by_none th left (claim_of (world_at th left) a H g) (λ v all. pure_goal g left a v (p a f (pure_hyps H left a v all)))
@@ -198,11 +191,11 @@ module _ (th : Theory) where
   reflexive_message side vars H g (of_times t u) e q = reflexive_true (local side vars H g) g refl (of_times t u) e q
   reflexive_message side vars H g (of_indices i j) e q = reflexive_true (local side vars H g) g refl (of_indices i j) e q
 
-  refl_sound : (s : SequentTree) → Keeps s (refl_row s)
+  refl_sound : (s : SequentTree) → Keeps th s (refl_row s)
   unfolding goal_of
   refl_sound (trace vars H g) = closing_sound (trace vars H g) (is_reflexive false (as_equation g)) (λ q. reflexive_true (trace vars H g) g refl (as_equation g) refl q)
   refl_sound (local side vars H g) = closing_sound (local side vars H g) (is_reflexive true (as_equation g)) (λ q. reflexive_message side vars H g (as_equation g) refl q)
-  refl_sound (equiv vars H known items) = no_row (equiv vars H known items)
+  refl_sound (equiv vars H known items) = no_row th (equiv vars H known items)
 
   sym_local : (side : Side) (vars : List Sort) (H : List TermTree) (g u v : TermTree) → g ≡ equality u v → HoldsAt th (asking (local side vars H g) (equality v u)) → HoldsAt th (local side vars H g)
   unfolding asking
@@ -210,9 +203,9 @@ module _ (th : Theory) where
       subst (λ t. ground_rule.Proved th left (map (translate (world_at th left) a []) H) (translate (world_at th left) a [] t)) (sym y)
       (equals.symmetric th left (map (translate (world_at th left) a []) H) (translate (world_at th left) a [] u) (translate (world_at th left) a [] v) (p left m a f))
 
-  sym_sound : (s : SequentTree) (o : Two) → binary_in 7 (local_goal_of s) ≡ o → Keeps s (sym_row s o)
+  sym_sound : (s : SequentTree) (o : Two) → binary_in 7 (local_goal_of s) ≡ o → Keeps th s (sym_row s o)
   unfolding local_goal_of
-  sym_sound s no_two q = no_row s
+  sym_sound s no_two q = no_row th s
   sym_sound (local side vars H g) (two u v) q = λ ps e h.
       let y : Some g ≡ Some (binary_tree 7 u v) = binary_in_is 7 (Some g) u v q in
       sym_local side vars H g u v (cc) (first_of (asking (local side vars H g) (equality v u)) [] ps (HoldsAt th) e h)
@@ -220,7 +213,7 @@ module _ (th : Theory) where
   sym_sound (equiv vars H known items) (two u v) q = let y : None ≡ Some (binary_tree 7 u v) = binary_in_is 7 None u v q in absurd (cc)
 
   -- where each premise of a step holds, the sequent does
-  pub logic_row_sound : (x : Step) (s : SequentTree) (env : EnvTree) (goal : ℕ) → Keeps s (logic_row x s env goal)
+  pub logic_row_sound : (x : Step) (s : SequentTree) (env : EnvTree) (goal : ℕ) → Keeps th s (logic_row x s env goal)
   unfolding logic_row
   logic_row_sound (step.Hyp h) s env goal = hyp_sound s (goal_of s) (hyp_of s h) h refl refl
   logic_row_sound step.True s env goal = true_sound s
@@ -238,12 +231,12 @@ module _ (th : Theory) where
   logic_row_sound step.Trace s env goal = trace_sound s
   logic_row_sound step.Refl s env goal = refl_sound s
   logic_row_sound step.Sym s env goal = sym_sound s (binary_in 7 (local_goal_of s)) refl
-  logic_row_sound _ s env goal = no_row s
+  logic_row_sound _ s env goal = no_row th s
 
 -- the same of the calculus with its limits, in the words of a clause
 pub logic_sound : (x : Step) (s : SequentTree) (env : EnvTree) (g : ℕ) (ps : List SequentTree) → logic_premises x s env g ≡ Ok ps → PremisesSuffice env g ps s
 unfolding within_limits logic_premises
-logic_sound x s env g ps e m is_trace earlier h = go (logic_row x s env g) refl e
+logic_sound x s env g ps e w m is_trace earlier h = go (logic_row x s env g) refl e
   where
     go : (o : Option (List SequentTree)) → logic_row x s env g ≡ o → judged o ≡ Ok ps → HoldsAt (theory_of env g m) s
     go None f k = absurd (cc)

@@ -15,14 +15,16 @@ abbrev pub EarlierHoldAt : EnvTree → ℕ → Model → Type 0
 EarlierHoldAt env g m =
     (k : ℕ) → is_usable env g k ≡ true → is_axiom (statement_at env k).kind ≡ false → HoldsAt (theory_of env g m) (statement_at env k).start
 
--- the sequent holds at a model before goal g wherever each premise does, and the earlier lemmas and equivalences do
-abbrev pub PremisesSuffice : EnvTree → ℕ → List SequentTree → SequentTree → Type 0
-PremisesSuffice env g premises s =
-    (m : Model) → IsTraceModel (system_of env g) m → EarlierHoldAt env g m → Each (HoldsAt (theory_of env g m)) premises → HoldsAt (theory_of env g m) s
-
 -- they do at every model of its system
 abbrev pub EarlierHold : EnvTree → ℕ → Type 0
 EarlierHold env g = (m : Model) → IsTraceModel (system_of env g) m → EarlierHoldAt env g m
+
+-- where the sequent is well-formed for goal g, it holds at a model before that goal wherever each premise does, and the earlier
+-- lemmas and equivalences do
+abbrev pub PremisesSuffice : EnvTree → ℕ → List SequentTree → SequentTree → Type 0
+PremisesSuffice env g premises s =
+    is_well_formed env g s ≡ true → (m : Model) → IsTraceModel (system_of env g) m → EarlierHoldAt env g m → Each (HoldsAt (theory_of env g m)) premises
+    → HoldsAt (theory_of env g m) s
 
 -- where the sequent is well-formed for goal g, each premise is
 abbrev pub PremisesAreWellFormed : EnvTree → ℕ → List SequentTree → SequentTree → Type 0
