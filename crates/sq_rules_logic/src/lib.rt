@@ -12,6 +12,7 @@ mod equations;
 mod propositional;
 #[cfg(test)]
 mod tests;
+mod written;
 
 use sq_base::Seq;
 use sq_sequent::{Env, RuleFault, Sequent, Step};
@@ -61,10 +62,13 @@ fn row(
         Step::Ore(h) => propositional::ore(alloc, s, *h),
         Step::Impe(h) => propositional::impe(alloc, s, *h),
         Step::Note(h) => propositional::note(alloc, s, *h),
+        Step::Cut(formula) => written::cut(alloc, s, env, goal, formula),
+        Step::Em(formula) => written::em(alloc, s, env, goal, formula),
         Step::Drop(h) => propositional::drop_hyp(alloc, s, *h),
         Step::Trace => equations::trace(alloc, s),
         Step::Refl => equations::refl(alloc, s),
         Step::Sym => equations::sym(alloc, s),
+        Step::Trans(between) => written::trans(alloc, s, env, goal, between),
         _ => Err(RuleFault::Shape),
     }
 }

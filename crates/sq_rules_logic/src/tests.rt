@@ -1,8 +1,10 @@
 use crate::premises;
 use sq_base::{NoMemory, Seq};
-use sq_sequent::{Env, Sequent, Step, binary, constant, goal_of, hyps_of, is_constant, unary};
+use sq_sequent::{
+    Env, Place, Sequent, Step, TermArg, binary, constant, goal_of, hyps_of, is_constant, unary,
+};
 use sq_term::{Builtin, Side, Term};
-use sqlite_items::Items;
+use sqlite_items::{Boxed, Items};
 use std::alloc::Global;
 
 const B: u32 = 14;
@@ -91,6 +93,17 @@ fn of_letter(alloc: Global, step: Step, counts: &[usize]) -> Result<bool, NoMemo
     of_goal(alloc, goal, step, counts)
 }
 
+// The same where this function of b and c is to be shown.
+fn of_two(
+    alloc: Global,
+    function: Builtin,
+    step: Step,
+    counts: &[usize],
+) -> Result<bool, NoMemory> {
+    let goal = two(alloc, function)?;
+    of_goal(alloc, goal, step, counts)
+}
+
 #[test]
 fn rows_close(rt: HostRuntime) {
     let alloc = rt.alloc();
@@ -111,6 +124,12 @@ fn rows_close(rt: HostRuntime) {
         of_letter(alloc, Step::Absurd(5), &[]) == Ok(false),
         "absurd of another formula"
     );
+    assert!(rt;
+        of_letter(alloc, Step::True, &[]) == Ok(false),
+        "true of a letter"
+    );
+    let yes = constant(alloc, Builtin::True);
+    assert!(rt; of_goal(alloc, yes, Step::True, &[]) == Ok(true), "true");
 }
 
 #[test]
@@ -123,6 +142,18 @@ fn hypotheses_are_taken_apart(rt: HostRuntime) {
         "impe"
     );
     assert!(rt; of_letter(alloc, Step::Note(3), &[6]) == Ok(true), "note");
+    assert!(rt;
+        of_letter(alloc, Step::Ande(1), &[8]) == Ok(false),
+        "ande of a disjunction"
+    );
+    assert!(rt;
+        of_letter(alloc, Step::Ore(2), &[7, 7]) == Ok(false),
+        "ore of an implication"
+    );
+    assert!(rt;
+        of_letter(alloc, Step::Impe(0), &[6, 7]) == Ok(false),
+        "impe of a conjunction"
+    );
     assert!(rt;
         of_letter(alloc, Step::Note(2), &[6]) == Ok(false),
         "note of an implication"
@@ -141,32 +172,116 @@ fn hypotheses_are_dropped(rt: HostRuntime) {
         of_letter(alloc, Step::Trace, &[1]) == Ok(true),
         "trace keeps false alone"
     );
-    assert!(rt;
-        of_letter(alloc, Step::Impi, &[7]) == Ok(false),
-        "impi of a letter"
-    );
-}
-
-fn goal_of_two(alloc: Global, function: Builtin) -> Result<Sequent, NoMemory> {
-    let goal = two(alloc, function)?;
-    local(alloc, goal)
-}
-
-fn andi_has_two(alloc: Global) -> Result<bool, NoMemory> {
-    let s = goal_of_two(alloc, Builtin::And)?;
-    of_sequent(alloc, &s, &Step::Andi, &[6, 6])
-}
-
-fn sym_has_one(alloc: Global) -> Result<bool, NoMemory> {
-    let s = goal_of_two(alloc, Builtin::Eq)?;
-    of_sequent(alloc, &s, &Step::Sym, &[6])
 }
 
 #[test]
 fn goals_are_taken_apart(rt: HostRuntime) {
     let alloc = rt.alloc();
-    assert!(rt; andi_has_two(alloc) == Ok(true), "andi");
-    assert!(rt; sym_has_one(alloc) == Ok(true), "sym");
+    assert!(rt;
+        of_two(alloc, Builtin::And, Step::Andi, &[6, 6]) == Ok(true),
+        "andi"
+    );
+    assert!(rt;
+        of_two(alloc, Builtin::Or, Step::Andi, &[6, 6]) == Ok(false),
+        "andi of a disjunction"
+    );
+    assert!(rt;
+        of_two(alloc, Builtin::Or, Step::Orl, &[6]) == Ok(true),
+        "orl"
+    );
+    assert!(rt;
+        of_two(alloc, Builtin::Or, Step::Orr, &[6]) == Ok(true),
+        "orr"
+    );
+    assert!(rt;
+        of_two(alloc, Builtin::And, Step::Orr, &[6]) == Ok(false),
+        "orr of a conjunction"
+    );
+    assert!(rt;
+        of_two(alloc, Builtin::Implies, Step::Impi, &[7]) == Ok(true),
+        "impi"
+    );
+    assert!(rt;
+        of_letter(alloc, Step::Impi, &[7]) == Ok(false),
+        "impi of a letter"
+    );
+    assert!(rt;
+        of_two(alloc, Builtin::Or, Step::Noti, &[7]) == Ok(false),
+        "noti of a disjunction"
+    );
+}
+
+#[test]
+fn equations_are_turned(rt: HostRuntime) {
+    let alloc = rt.alloc();
+    assert!(rt;
+        of_two(alloc, Builtin::Eq, Step::Sym, &[6]) == Ok(true),
+        "sym"
+    );
+    assert!(rt;
+        of_two(alloc, Builtin::Or, Step::Sym, &[6]) == Ok(false),
+        "sym of a disjunction"
+    );
+    assert!(rt;
+        of_two(alloc, Builtin::Eq, Step::Refl, &[]) == Ok(false),
+        "refl of two letters"
+    );
+    assert!(rt; refl_of_one(alloc) == Ok(true), "refl of one letter");
+}
+
+fn refl_of_one(alloc: Global) -> Result<bool, NoMemory> {
+    let goal = binary(alloc, Builtin::Eq, letter(alloc, B), letter(alloc, B))?;
+    of_goal(alloc, goal, Step::Refl, &[])
+}
+
+// Whether the step has no premises of a Trace sequent, whose goal is its one hypothesis.
+fn closes_trace(alloc: Global, step: Step) -> Result<bool, NoMemory> {
+    let mut hyps = Seq::new(alloc);
+    hyps.push(constant(alloc, Builtin::False))?;
+    let s = Sequent::Trace {
+        vars: Seq::new(alloc),
+        hyps,
+        goal: constant(alloc, Builtin::False),
+    };
+    of_sequent(alloc, &s, &step, &[])
+}
+
+// Whether the step has no premises of an equivalence with the hypothesis false.
+fn closes_equivalence(alloc: Global, step: Step) -> Result<bool, NoMemory> {
+    let mut hyps = Seq::new(alloc);
+    hyps.push(constant(alloc, Builtin::False))?;
+    let s = Sequent::Equiv {
+        vars: Seq::new(alloc),
+        hyps,
+        known: Seq::new(alloc),
+        items: Seq::new(alloc),
+    };
+    of_sequent(alloc, &s, &step, &[])
+}
+
+#[test]
+fn rows_are_of_their_kinds(rt: HostRuntime) {
+    let alloc = rt.alloc();
+    assert!(rt;
+        closes_trace(alloc, Step::Hyp(0)) == Ok(true),
+        "hyp of a Trace sequent"
+    );
+    assert!(rt;
+        closes_trace(alloc, Step::Trace) == Ok(false),
+        "trace of a Trace sequent"
+    );
+    assert!(rt;
+        closes_equivalence(alloc, Step::Absurd(0)) == Ok(true),
+        "absurd of an equivalence"
+    );
+    assert!(rt;
+        closes_equivalence(alloc, Step::Hyp(0)) == Ok(false),
+        "hyp of an equivalence"
+    );
+    assert!(rt;
+        closes_equivalence(alloc, Step::Erefl) == Ok(false),
+        "a step of another family"
+    );
 }
 
 fn goal_of_noti(alloc: Global) -> Result<bool, NoMemory> {
@@ -198,5 +313,100 @@ fn noti_asks_false(rt: HostRuntime) {
     assert!(rt;
         goal_of_noti(rt.alloc()) == Ok(true),
         "the premise of noti asks false"
+    );
+}
+
+// Whether a cut of this argument has its two premises, where `not(true)` is to be shown.
+fn cuts(alloc: Global, side: Side, formula: TermArg) -> Result<bool, NoMemory> {
+    let goal = unary(alloc, Builtin::Not, constant(alloc, Builtin::True))?;
+    let s = Sequent::Local {
+        side,
+        vars: Seq::new(alloc),
+        hyps: Seq::new(alloc),
+        goal,
+    };
+    of_sequent(alloc, &s, &Step::Cut(formula), &[0, 1])
+}
+
+fn cuts_at(alloc: Global, place: Place, node: u32) -> Result<bool, NoMemory> {
+    cuts(alloc, Side::Both, TermArg::At(place, node))
+}
+
+#[test]
+fn a_cut_is_of_a_formula_at_a_node(rt: HostRuntime) {
+    let alloc = rt.alloc();
+    assert!(rt; cuts_at(alloc, Place::Goal, 0) == Ok(true), "the goal");
+    assert!(rt; cuts_at(alloc, Place::Goal, 1) == Ok(true), "its part");
+    assert!(rt;
+        cuts_at(alloc, Place::Goal, 2) == Ok(false),
+        "past its nodes"
+    );
+    assert!(rt;
+        cuts_at(alloc, Place::Hyp(0), 0) == Ok(false),
+        "no hypothesis"
+    );
+    assert!(rt; cuts_at(alloc, Place::Left(0), 0) == Ok(false), "no item");
+}
+
+fn written(alloc: Global, function: Builtin, side: Side) -> Result<bool, NoMemory> {
+    cuts(alloc, side, TermArg::Written(constant(alloc, function)))
+}
+
+// `diff(true, true)` on this side.
+fn cuts_diff(alloc: Global, side: Side) -> Result<bool, NoMemory> {
+    let left = Boxed::new(alloc, constant(alloc, Builtin::True)).or(Err(NoMemory))?;
+    let right = Boxed::new(alloc, constant(alloc, Builtin::True)).or(Err(NoMemory))?;
+    cuts(alloc, side, TermArg::Written(Term::Diff(left, right)))
+}
+
+#[test]
+fn a_cut_is_of_what_may_stand(rt: HostRuntime) {
+    let alloc = rt.alloc();
+    assert!(rt;
+        written(alloc, Builtin::False, Side::Both) == Ok(true),
+        "a formula"
+    );
+    assert!(rt;
+        written(alloc, Builtin::Empty, Side::Both) == Ok(false),
+        "a message"
+    );
+    assert!(rt;
+        cuts(alloc, Side::Both, TermArg::Written(letter(alloc, B))) == Ok(false),
+        "an unknown function"
+    );
+    assert!(rt;
+        cuts_diff(alloc, Side::Both) == Ok(true),
+        "diff on both sides"
+    );
+    assert!(rt;
+        cuts_diff(alloc, Side::Left) == Ok(false),
+        "diff on one side"
+    );
+}
+
+#[test]
+fn cases_and_steps_between(rt: HostRuntime) {
+    let alloc = rt.alloc();
+    let yes = TermArg::Written(constant(alloc, Builtin::True));
+    assert!(rt; of_letter(alloc, Step::Em(yes), &[7, 7]) == Ok(true), "em");
+    let message = TermArg::Written(constant(alloc, Builtin::Empty));
+    assert!(rt;
+        of_letter(alloc, Step::Em(message), &[7, 7]) == Ok(false),
+        "em of a message"
+    );
+    let message = TermArg::Written(constant(alloc, Builtin::Empty));
+    assert!(rt;
+        of_two(alloc, Builtin::Eq, Step::Trans(message), &[6, 6]) == Ok(true),
+        "trans"
+    );
+    let formula = TermArg::Written(constant(alloc, Builtin::True));
+    assert!(rt;
+        of_two(alloc, Builtin::Eq, Step::Trans(formula), &[6, 6]) == Ok(false),
+        "trans by a formula"
+    );
+    let message = TermArg::Written(constant(alloc, Builtin::Empty));
+    assert!(rt;
+        of_two(alloc, Builtin::Or, Step::Trans(message), &[6, 6]) == Ok(false),
+        "trans of a disjunction"
     );
 }

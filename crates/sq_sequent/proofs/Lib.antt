@@ -5,6 +5,12 @@ pub mod Inversion
 pub mod Purity
 pub mod EqualityRules
 pub mod Holding
+pub mod Sorting
+pub mod Walks
+pub mod Scoping
+pub mod WrittenSound
 pub mod LogicSound
 pub mod Suited
+pub mod BuiltinSorts
+pub mod WrittenSuited
 pub mod Preserved

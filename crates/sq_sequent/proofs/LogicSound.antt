@@ -2,6 +2,7 @@
 use Rattle.std.proofs.Common.{◌≡◌, inl, inr, ℕ, ◌==◌, refl, sym, ap, subst, List, [], ◌∷◌, map, Option, Some, None, Ok, Err, Bool, true, false, cond, ◌∙◌}
 use Rattle.std.specs.Prelude.{nat_lt, length}
 use Rattle.sq_base.specs.declared.sort.Sort.{Sort}
+use Rattle.sq_base.specs.declared.sort.Sort.TheVariants.{Message, Boolean}
 use Rattle.sq_term.specs.declared.term.Side.{Side}
 use Rattle.sq_term.specs.Lists.{Member, Each}
 use Rattle.sq_term.proofs.Members.{member-map, each-map}
@@ -25,6 +26,7 @@ use Rattle.sq_ground.proofs.Propositional as ground_rule
 use Rattle.sq_sequent.specs.declared.step.Step.{Step}
 use Rattle.sq_sequent.specs.declared.step.Step.TheVariants as step
 use Rattle.sq_sequent.specs.declared.fault.RuleFault.TheVariants.{TooLarge}
+use Rattle.sq_sequent.specs.Standing.{term_in}
 use Rattle.sq_system.specs.Sizes.{all_fit}
 use Rattle.sq_sequent.specs.Views.{Two, no_two, two, Equation, no_equation, of_messages, of_times, of_indices, as_equation, hyps_of, goal_of, local_goal_of, hyp_of, binary_in, unary_in, constant_in}
 use Rattle.sq_sequent.specs.Premises.{falsity, equality, asking, assuming, with_hyps, without, pure_ones, pure_or_false}
@@ -33,6 +35,7 @@ use Rattle.sq_sequent.specs.Soundness.{PremisesSuffice}
 use Rattle.sq_sequent.proofs.Inversion.{binary_tree, unary_tree, binary_in_is, unary_in_is, constant_in_is, equation_is_of_messages, equation_is_of_times, equation_is_of_indices, get_member, member-without, member-pure}
 use Rattle.sq_sequent.proofs.Purity.{pure_alone}
 use Rattle.sq_sequent.proofs.EqualityRules as equals
+use Rattle.sq_sequent.proofs.WrittenSound.{cut_row_sound, em_row_sound, trans_row_sound}
 use Rattle.sq_sequent.proofs.Holding.{first_of, second_of, Keeps, no_row, AllTrueIn, TrueIn, assume_both_sound, absurd_sound, cut_sound, contrary_sound, cases_sound, goal_sound, asked_sound, both_asked_sound, intro_sound, hyp_true}
 
 same_time : (t : Option ℕ) → is_same_time t t ≡ true
@@ -227,10 +230,13 @@ module _ (th : Theory) where
   logic_row_sound (step.Ore h) s env goal = ore_sound s h (binary_in 5 (hyp_of s h)) refl
   logic_row_sound (step.Impe h) s env goal = impe_sound s h (binary_in 6 (hyp_of s h)) refl
   logic_row_sound (step.Note h) s env goal = note_sound s h (unary_in 3 (hyp_of s h)) refl
+  logic_row_sound (step.Cut F) s env goal = cut_row_sound th s (term_in env goal s Boolean F)
+  logic_row_sound (step.Em F) s env goal = em_row_sound th s (term_in env goal s Boolean F)
   logic_row_sound (step.Drop h) s env goal = drop_sound s h
   logic_row_sound step.Trace s env goal = trace_sound s
   logic_row_sound step.Refl s env goal = refl_sound s
   logic_row_sound step.Sym s env goal = sym_sound s (binary_in 7 (local_goal_of s)) refl
+  logic_row_sound (step.Trans w) s env goal = trans_row_sound th s (binary_in 7 (local_goal_of s)) (term_in env goal s Message w) refl
   logic_row_sound _ s env goal = no_row th s
 
 -- the same of the calculus with its limits, in the words of a clause

@@ -1,11 +1,9 @@
 -- Each premise of a well-formed sequent is well-formed.
-use Rattle.std.proofs.Common.{◌≡◌, ℕ, zero, suc, ◌==◌, refl, sym, ap, subst, ◌∙◌, List, [], ◌∷◌, Option, Some, None, Ok, Err, Bool, true, false, cond, ◌||◌}
+use Rattle.std.proofs.Common.{◌≡◌, ℕ, refl, sym, ap, subst, ◌∙◌, List, [], ◌∷◌, Option, Some, None, Ok, Err, Bool, true, false, cond, ◌||◌}
 use Rattle.std.specs.Prelude.{slice_get, nat_lt, length}
 use Rattle.std.specs.List.{list_all}
-use Rattle.std.proofs.lemmas.Bool.Decides.{Decides-eqb}
 use Rattle.sq_base.specs.declared.sort.Sort.{Sort}
 use Rattle.sq_base.specs.declared.sort.Sort.TheVariants.{Message, Boolean}
-use Rattle.sq_term.specs.declared.signature.FunDecl.{FunDecl}
 use Rattle.sq_term.specs.declared.term.Side.{Side}
 use Rattle.sq_term.specs.declared.term.Side.TheVariants.{Left, Right, Both}
 use Rattle.sq_term.specs.Lists.{Each}
@@ -15,55 +13,28 @@ use Rattle.sq_term.specs.Syntax.{TermTree}
 use Rattle.sq_term.specs.Systems.{ActionTree}
 use Rattle.sq_term.specs.TreeEquality.{is_same_sort}
 use Rattle.sq_term.proofs.BoolTests.{and_split, and_both}
-use Rattle.sq_term.proofs.SameTrees.{is_same_sort-decides}
 use Rattle.sq_system.specs.Environments.{EnvTree, StmtTree}
 use Rattle.sq_system.specs.Facts.{holds_diff}
-use Rattle.sq_system.specs.Functions.{plain_function, builtin_functions, begins_with, same_function, are_functions}
+use Rattle.sq_system.specs.Functions.{are_functions}
 use Rattle.sq_system.specs.Sequents.{SequentTree, trace, local, equiv}
 use Rattle.sq_system.specs.Sizes.{fits, all_fit}
 use Rattle.sq_system.specs.Typing.{Signature, is_binder_sort, result_sort, applies, has_sort}
 use Rattle.sq_system.specs.WellFormed.{signature_of, is_formula, is_trace_formula, is_local_formula, is_sorted, vars_of, is_sequent_of, is_well_formed_for, is_well_formed}
 use Rattle.sq_sequent.specs.declared.step.Step.{Step}
 use Rattle.sq_sequent.specs.declared.step.Step.TheVariants as step
+use Rattle.sq_sequent.specs.declared.step.TermArg.{TermArg}
 use Rattle.sq_sequent.specs.declared.fault.RuleFault.TheVariants.{TooLarge}
 use Rattle.sq_sequent.specs.Views.{Two, no_two, two, hyps_of, goal_of, local_goal_of, hyp_of, binary_in, unary_in}
-use Rattle.sq_sequent.specs.Premises.{falsity, equality, asking, assuming, with_hyps, without, pure_ones, pure_or_false}
-use Rattle.sq_sequent.specs.Logic.{closing_row, hyp_row, impi_row, noti_row, andi_row, orl_row, orr_row, ande_row, ore_row, impe_row, note_row, drop_row, trace_row, refl_row, sym_row, logic_row, within_limits, judged, logic_premises}
+use Rattle.sq_sequent.specs.Places.{term_at}
+use Rattle.sq_sequent.specs.Standing.{signature_for, where_standing, term_in}
+use Rattle.sq_sequent.specs.Premises.{falsity, negation, equality, asking, assuming, with_hyps, without, pure_ones, pure_or_false}
+use Rattle.sq_sequent.specs.Logic.{closing_row, hyp_row, impi_row, noti_row, andi_row, orl_row, orr_row, ande_row, ore_row, impe_row, note_row, cut_row, em_row, drop_row, trace_row, refl_row, sym_row, trans_row, logic_row, within_limits, judged, logic_premises}
+use Rattle.sq_sequent.proofs.BuiltinSorts.{falsity-formula}
 use Rattle.sq_sequent.proofs.Inversion.{binary_tree, unary_tree, binary_in_is, unary_in_is}
 use Rattle.sq_sequent.proofs.Suited.{suited, suited-formula, suited-from, hyp-suited, goal-suited, assuming-sorted, asking-sorted, asking-suits, assuming-suits, without-sorted, pure_ones-sorted, conjunct-first, conjunct-second, disjunct-first, disjunct-second, implication-first, implication-second, negated}
+use Rattle.sq_sequent.proofs.WrittenSuited.{signature-at, same-vars, Stands, stands-suited, negation-suited, equation-sides, equation-of, written-stands}
 
--- ---- false is a formula of every signature
-
-builtin-at : (bs fs : List FunDecl) (k : ℕ) (b : FunDecl) → begins_with bs fs ≡ true → slice_get bs k ≡ Some b → (d : FunDecl) × (slice_get fs k ≡ Some d) × (same_function b d ≡ true)
-builtin-at [] fs k b h e = absurd (cc)
-builtin-at (x ∷ xs) [] k b h e = let z : false ≡ true = h in absurd (cc)
-builtin-at (x ∷ xs) (y ∷ ys) zero b h e = let z : b ≡ x = cc in (y, refl, ap (λ (f : FunDecl). same_function f y) z ∙ (and_split (same_function x y) (begins_with xs ys) h).0)
-builtin-at (x ∷ xs) (y ∷ ys) (suc k) b h e = builtin-at xs ys k b (and_split (same_function x y) (begins_with xs ys) h).1 e
-
--- a built-in function as its list has it
-turned : (m n : ℕ) → (m == n) ≡ true → (n == m) ≡ true
-turned m n h = (Decides-eqb n m).1 (sym ((Decides-eqb m n).0 h))
-
-applied : (g : Signature) (k n : ℕ) (s : Sort) → are_functions g.funs ≡ true → slice_get builtin_functions k ≡ Some (plain_function n s)
-    → (is_same_sort (result_sort g (slice_get g.funs k)) s ≡ true) × (applies g (slice_get g.funs k) 0 n ≡ true)
-applied g k n s h e = go (builtin-at builtin_functions g.funs k (plain_function n s) h e)
-  where
-    go : (d : FunDecl) × (slice_get g.funs k ≡ Some d) × (same_function (plain_function n s) d ≡ true)
-        → (is_same_sort (result_sort g (slice_get g.funs k)) s ≡ true) × (applies g (slice_get g.funs k) 0 n ≡ true)
-    go (d, at, same) =
-        let p = and_split (0 == d.idx) _ same in
-        let q = and_split (n == d.args) _ p.1 in
-        let r = and_split (is_same_sort s d.result) _ q.1 in
-        let z : s ≡ d.result = (is_same_sort-decides s d.result).0 r.0 in
-        let w : is_same_sort d.result s ≡ true = (is_same_sort-decides d.result s).1 (sym z) in (
-          ap (λ o. is_same_sort (result_sort g o) s) at ∙ w,
-          ap (λ o. applies g o 0 n) at ∙ and_both (d.idx == 0) (d.args == n) (turned 0 d.idx p.0) (turned n d.args q.0),
-        )
-
-falsity-formula : (g : Signature) → are_functions g.funs ≡ true → is_formula g falsity ≡ true
-falsity-formula g h =
-    let a = applied g 2 0 Boolean h refl in
-    and_both (is_same_sort (result_sort g (slice_get g.funs 2)) Boolean) _ a.0 (and_both (applies g (slice_get g.funs 2) 0 0) true a.1 refl)
+-- ---- false may stand everywhere
 
 falsity-suited : (g : Signature) (s : SequentTree) → are_functions g.funs ≡ true → suited g s falsity ≡ true
 falsity-suited g (trace vars hyps goal) h = and_both (is_formula g falsity) true (falsity-formula g h) refl
@@ -256,25 +227,61 @@ module _ (g : Signature) (ok : are_functions g.funs ≡ true) where
   sym-sorts (trace vars H c) (two u v) h q = let y : None ≡ Some (binary_tree 7 u v) = binary_in_is 7 None u v q in absurd (cc)
   sym-sorts (equiv vars H known items) (two u v) h q = let y : None ≡ Some (binary_tree 7 u v) = binary_in_is 7 None u v q in absurd (cc)
 
-  pub row-sorts : (x : Step) (s : SequentTree) (env : EnvTree) (goal : ℕ) → is_sorted g s ≡ true → Sorts s (logic_row x s env goal)
+  cut-sorts : (s : SequentTree) (o : Option TermTree) → is_sorted g s ≡ true → Stands g s Boolean o → Sorts s (cut_row s o)
+  cut-sorts s None h k = nothing s
+  cut-sorts s (Some F) h k =
+      let e = stands-suited g s F (k F refl) in
+      both s (asking s F) (assuming s F) (asked s F h e) (assumed s F h e)
+
+  em-sorts : (s : SequentTree) (o : Option TermTree) → is_sorted g s ≡ true → Stands g s Boolean o → Sorts s (em_row s o)
+  em-sorts s None h k = nothing s
+  em-sorts s (Some F) h k =
+      let e = stands-suited g s F (k F refl) in
+      both s (assuming s F) (assuming s (negation F)) (assumed s F h e) (assumed s (negation F) h (negation-suited g ok s F e))
+
+  trans-sorts : (s : SequentTree) (o : Two) (w : Option TermTree) → is_sorted g s ≡ true → binary_in 7 (local_goal_of s) ≡ o → Stands g s Message w → Sorts s (trans_row s o w)
+  unfolding local_goal_of
+  trans-sorts s no_two w h q k = nothing s
+  trans-sorts s (two u v) None h q k = nothing s
+  trans-sorts (local side vars H c) (two u v) (Some w) h q k =
+      let y : Some c ≡ Some (binary_tree 7 u v) = binary_in_is 7 (Some c) u v q in
+      let p = and_split (list_all (is_local_formula g side) H) _ h in
+      let z : c ≡ equality u v = cc in
+      let e = equation-sides g side u v (ap (is_local_formula g side) (sym z) ∙ p.1) in
+      let m = k w refl in
+      both (local side vars H c) (asking (local side vars H c) (equality u w)) (asking (local side vars H c) (equality w v))
+      (asked (local side vars H c) (equality u w) h (equation-of g ok side u w e.0 m)) (asked (local side vars H c) (equality w v) h (equation-of g ok side w v m e.1))
+  trans-sorts (trace vars H c) (two u v) (Some w) h q k = let y : None ≡ Some (binary_tree 7 u v) = binary_in_is 7 None u v q in absurd (cc)
+  trans-sorts (equiv vars H known items) (two u v) (Some w) h q k = let y : None ≡ Some (binary_tree 7 u v) = binary_in_is 7 None u v q in absurd (cc)
+
+  -- the term of an argument, where the signature is the goal's
+  written : (env : EnvTree) (goal : ℕ) (s : SequentTree) (sort : Sort) (a : TermArg) → g ≡ signature_for env goal (vars_of s) → Stands g s sort (term_in env goal s sort a)
+  unfolding term_in
+  written env goal s sort a e =
+      subst (λ i. Stands i s sort (where_standing env goal s sort (term_at s a))) (sym (e ∙ ap (signature_for env goal) (same-vars s))) (written-stands env goal s sort (term_at s a))
+
+  pub row-sorts : (x : Step) (s : SequentTree) (env : EnvTree) (goal : ℕ) → g ≡ signature_for env goal (vars_of s) → is_sorted g s ≡ true → Sorts s (logic_row x s env goal)
   unfolding logic_row
-  row-sorts (step.Hyp k) s env goal h = hyp-sorts s (goal_of s) (hyp_of s k)
-  row-sorts step.True s env goal h = none_left s _
-  row-sorts (step.Absurd k) s env goal h = none_left s _
-  row-sorts step.Impi s env goal h = impi-sorts s (binary_in 6 (goal_of s)) h refl
-  row-sorts step.Noti s env goal h = noti-sorts s (unary_in 3 (goal_of s)) h refl
-  row-sorts step.Andi s env goal h = andi-sorts s (binary_in 4 (goal_of s)) h refl
-  row-sorts step.Orl s env goal h = orl-sorts s (binary_in 5 (goal_of s)) h refl
-  row-sorts step.Orr s env goal h = orr-sorts s (binary_in 5 (goal_of s)) h refl
-  row-sorts (step.Ande k) s env goal h = ande-sorts s k (binary_in 4 (hyp_of s k)) h refl
-  row-sorts (step.Ore k) s env goal h = ore-sorts s k (binary_in 5 (hyp_of s k)) h refl
-  row-sorts (step.Impe k) s env goal h = impe-sorts s k (binary_in 6 (hyp_of s k)) h refl
-  row-sorts (step.Note k) s env goal h = note-sorts s k (unary_in 3 (hyp_of s k)) h refl
-  row-sorts (step.Drop k) s env goal h = drop-sorts s k h
-  row-sorts step.Trace s env goal h = trace-sorts s h
-  row-sorts step.Refl s env goal h = refl-sorts s
-  row-sorts step.Sym s env goal h = sym-sorts s (binary_in 7 (local_goal_of s)) h refl
-  row-sorts _ s env goal h = nothing s
+  row-sorts (step.Hyp k) s env goal e h = hyp-sorts s (goal_of s) (hyp_of s k)
+  row-sorts step.True s env goal e h = none_left s _
+  row-sorts (step.Absurd k) s env goal e h = none_left s _
+  row-sorts step.Impi s env goal e h = impi-sorts s (binary_in 6 (goal_of s)) h refl
+  row-sorts step.Noti s env goal e h = noti-sorts s (unary_in 3 (goal_of s)) h refl
+  row-sorts step.Andi s env goal e h = andi-sorts s (binary_in 4 (goal_of s)) h refl
+  row-sorts step.Orl s env goal e h = orl-sorts s (binary_in 5 (goal_of s)) h refl
+  row-sorts step.Orr s env goal e h = orr-sorts s (binary_in 5 (goal_of s)) h refl
+  row-sorts (step.Ande k) s env goal e h = ande-sorts s k (binary_in 4 (hyp_of s k)) h refl
+  row-sorts (step.Ore k) s env goal e h = ore-sorts s k (binary_in 5 (hyp_of s k)) h refl
+  row-sorts (step.Impe k) s env goal e h = impe-sorts s k (binary_in 6 (hyp_of s k)) h refl
+  row-sorts (step.Note k) s env goal e h = note-sorts s k (unary_in 3 (hyp_of s k)) h refl
+  row-sorts (step.Cut F) s env goal e h = cut-sorts s (term_in env goal s Boolean F) h (written env goal s Boolean F e)
+  row-sorts (step.Em F) s env goal e h = em-sorts s (term_in env goal s Boolean F) h (written env goal s Boolean F e)
+  row-sorts (step.Drop k) s env goal e h = drop-sorts s k h
+  row-sorts step.Trace s env goal e h = trace-sorts s h
+  row-sorts step.Refl s env goal e h = refl-sorts s
+  row-sorts step.Sym s env goal e h = sym-sorts s (binary_in 7 (local_goal_of s)) h refl
+  row-sorts (step.Trans w) s env goal e h = trans-sorts s (binary_in 7 (local_goal_of s)) (term_in env goal s Message w) h refl (written env goal s Message w e)
+  row-sorts _ s env goal e h = nothing s
 
 -- ---- well-formed for a goal
 
@@ -284,13 +291,14 @@ fit-at (q ∷ qs) h = let k = and_split (fits q) (all_fit qs) h in each_cons q q
 
 -- with the goal's system and its count of schema variables
 premise-of : (e : EnvTree) (actions : Option (List ActionTree)) (n : ℕ) (x : Step) (s : SequentTree) (env : EnvTree) (goal : ℕ) (ps : List SequentTree)
+    → ((xs : List ActionTree) → actions ≡ Some xs → signature_of e xs n (vars_of s) ≡ signature_for env goal (vars_of s))
     → are_functions e.funs ≡ true → is_sequent_of e actions n s ≡ true → logic_row x s env goal ≡ Some ps → all_fit ps ≡ true → Each (λ p. is_sequent_of e actions n p ≡ true) ps
-premise-of e None n x s env goal ps ok h r f = absurd (cc)
-premise-of e (Some actions) n x s env goal ps ok h r f =
+premise-of e None n x s env goal ps same ok h r f = absurd (cc)
+premise-of e (Some actions) n x s env goal ps same ok h r f =
     let g : Signature = signature_of e actions n (vars_of s) in
     let v = and_split (list_all is_binder_sort (vars_of s)) _ h in
     let w = and_split (is_sorted (signature_of e actions n (vars_of s)) s) (fits s) v.1 in
-    λ p i. judged_premise p (row-sorts (signature_of e actions n (vars_of s)) ok x s env goal w.0 ps r p i) (fit-at ps f p i) v.0
+    λ p i. judged_premise p (row-sorts (signature_of e actions n (vars_of s)) ok x s env goal (same actions refl) w.0 ps r p i) (fit-at ps f p i) v.0
   where
     judged_premise : (p : SequentTree) → (vars_of p ≡ vars_of s) × (is_sorted (signature_of e actions n (vars_of s)) p ≡ true) → fits p ≡ true
         → list_all is_binder_sort (vars_of s) ≡ true → is_sequent_of e (Some actions) n p ≡ true
@@ -298,10 +306,12 @@ premise-of e (Some actions) n x s env goal ps ok h r f =
         and_both (list_all is_binder_sort (vars_of p)) _ (ap (list_all is_binder_sort) q ∙ binders)
         (and_both (is_sorted (signature_of e actions n (vars_of p)) p) (fits p) (ap (λ vs. is_sorted (signature_of e actions n vs) p) q ∙ r) fit)
 
-pub premise_for : (e : EnvTree) (g : Option StmtTree) (x : Step) (s : SequentTree) (env : EnvTree) (goal : ℕ) (ps : List SequentTree)
-    → are_functions e.funs ≡ true → is_well_formed_for e g s ≡ true → logic_row x s env goal ≡ Some ps → all_fit ps ≡ true → Each (λ p. is_well_formed_for e g p ≡ true) ps
-premise_for e None x s env goal ps ok h r f = absurd (cc)
-premise_for e (Some st) x s env goal ps ok h r f = premise-of e (slice_get e.systems st.system) (length st.schemas) x s env goal ps ok h r f
+pub premise_for : (env : EnvTree) (goal : ℕ) (g : Option StmtTree) (x : Step) (s : SequentTree) (ps : List SequentTree)
+    → slice_get env.stmts goal ≡ g → are_functions env.funs ≡ true → is_well_formed_for env g s ≡ true → logic_row x s env goal ≡ Some ps → all_fit ps ≡ true
+    → Each (λ p. is_well_formed_for env g p ≡ true) ps
+premise_for env goal None x s ps at ok h r f = absurd (cc)
+premise_for env goal (Some st) x s ps at ok h r f =
+    premise-of env (slice_get env.systems st.system) (length st.schemas) x s env goal ps (λ xs e. signature-at env goal st xs (vars_of s) at e) ok h r f
 
 -- each premise of a well-formed sequent is well-formed
 pub premises_well_formed : (x : Step) (s : SequentTree) (env : EnvTree) (goal : ℕ) (ps : List SequentTree)
@@ -316,5 +326,5 @@ premises_well_formed x s env goal ps ok e h = go (logic_row x s env goal) refl e
         within : (b : Bool) → all_fit qs ≡ b → cond b (Ok qs) (Err TooLarge) ≡ Ok ps → Each (λ p. is_well_formed env goal p ≡ true) ps
         within true i j =
             let same : qs ≡ ps = cc in
-            premise_for env (slice_get env.stmts goal) x s env goal ps ok h (f ∙ ap Some same) (ap all_fit (sym same) ∙ i)
+            premise_for env goal (slice_get env.stmts goal) x s ps refl ok h (f ∙ ap Some same) (ap all_fit (sym same) ∙ i)
         within false i j = absurd (cc)

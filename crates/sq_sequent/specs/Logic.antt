@@ -1,5 +1,6 @@
 -- The logic rows of the calculus: from a step and a sequent to premises.
 use Rattle.std.specs.Prelude.{ℕ, nat_lt, length, Bool, true, false, cond, ◌&&◌, List, [], ◌∷◌, map, Option, Some, None, Result, Ok, Err}
+use Rattle.sq_base.specs.declared.sort.Sort.TheVariants.{Message, Boolean}
 use Rattle.sq_term.specs.Syntax.{TermTree}
 use Rattle.sq_term.specs.TreeEquality.{is_same_tree}
 use Rattle.sq_term.specs.TsEquality.{is_same_idx, is_same_ts_tree}
@@ -10,9 +11,10 @@ use Rattle.sq_sequent.specs.declared.fault.RuleFault.{RuleFault}
 use Rattle.sq_sequent.specs.declared.fault.RuleFault.TheVariants.{Shape, TooLarge}
 use Rattle.sq_sequent.specs.declared.step.Step.{Step}
 use Rattle.sq_sequent.specs.declared.step.Step.TheVariants as step
+use Rattle.sq_sequent.specs.Standing.{term_in}
 use Rattle.sq_system.specs.Sizes.{all_fit}
 use Rattle.sq_sequent.specs.Views.{Two, no_two, two, Equation, no_equation, of_messages, of_times, of_indices, as_equation, hyps_of, hyp_of, goal_of, local_goal_of, binary_in, unary_in, constant_in}
-use Rattle.sq_sequent.specs.Premises.{falsity, equality, asking, assuming, with_hyps, without, pure_ones, pure_or_false}
+use Rattle.sq_sequent.specs.Premises.{falsity, negation, equality, asking, assuming, with_hyps, without, pure_ones, pure_or_false}
 
 abbrev pub sequent_trees : List Sequent → List SequentTree
 sequent_trees ss = map sequent_tree ss
@@ -70,6 +72,15 @@ abbrev pub note_row : SequentTree → Option TermTree → Option (List SequentTr
 note_row s None = None
 note_row s (Some a) = Some (asking s a ∷ [])
 
+-- cut and em: of a formula
+abbrev pub cut_row : SequentTree → Option TermTree → Option (List SequentTree)
+cut_row s None = None
+cut_row s (Some F) = Some (asking s F ∷ assuming s F ∷ [])
+
+abbrev pub em_row : SequentTree → Option TermTree → Option (List SequentTree)
+em_row s None = None
+em_row s (Some F) = Some (assuming s F ∷ assuming s (negation F) ∷ [])
+
 -- drop: of a hypothesis
 abbrev pub drop_row : SequentTree → ℕ → Option (List SequentTree)
 drop_row s h = cond (nat_lt h (length (hyps_of s))) (Some (with_hyps (without (hyps_of s) h) s ∷ [])) None
@@ -97,6 +108,12 @@ abbrev pub sym_row : SequentTree → Two → Option (List SequentTree)
 sym_row s no_two = None
 sym_row s (two u v) = Some (asking s (equality v u) ∷ [])
 
+-- trans: the same, with a message between
+abbrev pub trans_row : SequentTree → Two → Option TermTree → Option (List SequentTree)
+trans_row s no_two w = None
+trans_row s (two u v) None = None
+trans_row s (two u v) (Some w) = Some (asking s (equality u w) ∷ asking s (equality w v) ∷ [])
+
 -- the premises of a step, where its row applies
 unfoldable pub logic_row : Step → SequentTree → EnvTree → ℕ → Option (List SequentTree)
 logic_row (step.Hyp h) s env goal = hyp_row (goal_of s) (hyp_of s h)
@@ -111,10 +128,13 @@ logic_row (step.Ande h) s env goal = ande_row s (binary_in 4 (hyp_of s h))
 logic_row (step.Ore h) s env goal = ore_row s (binary_in 5 (hyp_of s h))
 logic_row (step.Impe h) s env goal = impe_row s (binary_in 6 (hyp_of s h))
 logic_row (step.Note h) s env goal = note_row s (unary_in 3 (hyp_of s h))
+logic_row (step.Cut F) s env goal = cut_row s (term_in env goal s Boolean F)
+logic_row (step.Em F) s env goal = em_row s (term_in env goal s Boolean F)
 logic_row (step.Drop h) s env goal = drop_row s h
 logic_row step.Trace s env goal = trace_row s
 logic_row step.Refl s env goal = refl_row s
 logic_row step.Sym s env goal = sym_row s (binary_in 7 (local_goal_of s))
+logic_row (step.Trans w) s env goal = trans_row s (binary_in 7 (local_goal_of s)) (term_in env goal s Message w)
 logic_row _ s env goal = None
 
 unfoldable pub within_limits : List SequentTree → Result (List SequentTree) RuleFault

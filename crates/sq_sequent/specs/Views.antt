@@ -2,7 +2,7 @@
 use Rattle.std.specs.Prelude.{ℕ, ◌==◌, Bool, true, false, List, [], Option, Some, None, slice_get}
 use Rattle.sq_term.specs.declared.term.Idx.{Idx}
 use Rattle.sq_term.specs.Syntax.{TsTree, TermTree, fun, ts_eq, idx_eq, TermTrees, nil, cons}
-use Rattle.sq_system.specs.Sequents.{SequentTree, trace, local, equiv}
+use Rattle.sq_system.specs.Sequents.{Item, SequentTree, trace, local, equiv}
 
 -- two terms, or none
 pub data Two : Type 0 where
@@ -68,6 +68,12 @@ abbrev pub hyps_of : SequentTree → List TermTree
 hyps_of (trace vars hyps goal) = hyps
 hyps_of (local side vars hyps goal) = hyps
 hyps_of (equiv vars hyps known items) = hyps
+
+-- the items; a sequent with a goal has none
+abbrev pub items_of : SequentTree → List Item
+items_of (trace vars hyps goal) = []
+items_of (local side vars hyps goal) = []
+items_of (equiv vars hyps known items) = items
 
 -- the goal, where there is one
 unfoldable pub goal_of : SequentTree → Option TermTree

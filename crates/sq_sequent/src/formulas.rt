@@ -4,7 +4,7 @@ ghost use Rattle.sq_term.specs.Pure.{builtin_kind};
 ghost use Rattle.sq_term.specs.Symbols.{function_number};
 ghost use Rattle.sq_term.specs.Syntax.{fun, nil, cons};
 ghost use Rattle.sq_term.specs.View.{term_tree};
-ghost use Rattle.sq_sequent.specs.Premises.{equality};
+ghost use Rattle.sq_sequent.specs.Premises.{equality, negation as negated};
 
 use sq_base::{NoMemory, Seq};
 use sq_term::{Builtin, Term, copy};
@@ -39,6 +39,15 @@ pub fn binary(alloc: Global, function: Builtin, a: Term, b: Term) -> Result<Term
     args.push(a)?;
     args.push(b)?;
     Ok(Term::Fun(function.number(), Seq::new(alloc), args))
+}
+
+/// The negation of a copy of this formula.
+#[tactic(auto, using(sq_term::proofs::Views::tree_rules))]
+pub fn negation(alloc: Global, a: &Term) -> Result<Term, NoMemory>
+    ensures { IfOk result (λ t. term_tree t ≡ negated (term_tree a.now)) }
+{
+    let a = copy(alloc, a)?;
+    unary(alloc, Builtin::Not, a)
 }
 
 /// The equation of copies of these terms.

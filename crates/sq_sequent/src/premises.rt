@@ -176,6 +176,14 @@ pub fn asking_copy(alloc: Global, s: &Sequent, goal: &Term) -> Result<Sequent, N
     asking(alloc, s, goal)
 }
 
+/// A copy of the sequent with one more hypothesis.
+pub fn copy_assuming(alloc: Global, s: &Sequent, hyp: Term) -> Result<Sequent, NoMemory>
+    ensures { IfOk result (λ p. sequent_tree p ≡ spec.assuming (sequent_tree s.now) (term_tree hyp)) }
+{
+    let s = copy_sequent(alloc, s)?;
+    assuming(s, hyp)
+}
+
 /// A copy of the sequent with a copy of one more hypothesis.
 pub fn assuming_copy(alloc: Global, s: &Sequent, hyp: &Term) -> Result<Sequent, NoMemory>
     ensures { IfOk result (λ p. sequent_tree p ≡ spec.assuming (sequent_tree s.now) (term_tree hyp.now)) }

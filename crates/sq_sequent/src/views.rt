@@ -3,12 +3,12 @@ ghost use Rattle.std.specs.Prelude.{◌≡◌, map, option_map, option_copied, M
 ghost use Rattle.sq_term.specs.View.{ts_tree, term_tree, term_trees};
 ghost use Rattle.sq_term.specs.TreeEquality.{is_same_tree};
 ghost use Rattle.sq_term.specs.TsEquality.{is_same_idx, is_same_ts_tree};
-ghost use Rattle.sq_system.specs.Sequents.{sequent_tree};
+ghost use Rattle.sq_system.specs.Sequents.{item_of, sequent_tree};
 ghost use Rattle.sq_sequent.specs.Views as spec;
 ghost use Rattle.sq_sequent.specs.Views.{no_two, two, two_of, one_of};
 ghost use Rattle.sq_sequent.specs.Logic.{is_reflexive as spec_reflexive};
 
-use sq_system::Sequent;
+use sq_system::{Both, Sequent};
 use sq_term::{Builtin, Idx, Term, Ts, same, same_ts};
 use sqlite_items::at;
 
@@ -19,6 +19,16 @@ pub fn hyps_of(s: &Sequent) -> &[Term]
     match s {
         Sequent::Trace { hyps, .. } | Sequent::Local { hyps, .. } | Sequent::Equiv { hyps, .. } =>
             hyps.as_slice(),
+    }
+}
+
+/// The items; a sequent with a goal has none.
+pub fn items_of(s: &Sequent) -> &[Both]
+    ensures { map item_of result.now ≡ spec.items_of (sequent_tree s.now) }
+{
+    match s {
+        Sequent::Trace { .. } | Sequent::Local { .. } => &[],
+        Sequent::Equiv { items, .. } => items.as_slice(),
     }
 }
 
