@@ -10,6 +10,7 @@ ghost use Rattle.sq_sequent.specs.Soundness.{PremisesSuffice, PremisesAreWellFor
 
 mod equations;
 mod propositional;
+mod quantifiers;
 #[cfg(test)]
 mod tests;
 mod written;
@@ -55,6 +56,7 @@ fn row(
         Step::Absurd(h) => propositional::absurd(alloc, s, *h),
         Step::Impi => propositional::impi(alloc, s),
         Step::Noti => propositional::noti(alloc, s),
+        Step::Alli => quantifiers::alli(alloc, s),
         Step::Andi => propositional::andi(alloc, s),
         Step::Orl => propositional::orl(alloc, s),
         Step::Orr => propositional::orr(alloc, s),
@@ -62,6 +64,7 @@ fn row(
         Step::Ore(h) => propositional::ore(alloc, s, *h),
         Step::Impe(h) => propositional::impe(alloc, s, *h),
         Step::Note(h) => propositional::note(alloc, s, *h),
+        Step::Exe(h) => quantifiers::exe(alloc, s, *h),
         Step::Cut(formula) => written::cut(alloc, s, env, goal, formula),
         Step::Em(formula) => written::em(alloc, s, env, goal, formula),
         Step::Drop(h) => propositional::drop_hyp(alloc, s, *h),

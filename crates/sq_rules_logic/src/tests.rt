@@ -1,5 +1,5 @@
 use crate::premises;
-use sq_base::{NoMemory, Seq};
+use sq_base::{NoMemory, Seq, Sort};
 use sq_sequent::{
     Env, Place, Sequent, Step, TermArg, binary, constant, goal_of, hyps_of, is_constant, unary,
 };
@@ -408,5 +408,77 @@ fn cases_and_steps_between(rt: HostRuntime) {
     assert!(rt;
         of_two(alloc, Builtin::Or, Step::Trans(message), &[6, 6]) == Ok(false),
         "trans of a disjunction"
+    );
+}
+
+fn quantified(alloc: Global, universal: bool) -> Result<Term, NoMemory> {
+    let body = Boxed::new(alloc, letter(alloc, B)).or(Err(NoMemory))?;
+    if universal {
+        Ok(Term::Forall(Sort::Index, body))
+    } else {
+        Ok(Term::Exists(Sort::Index, body))
+    }
+}
+
+// The sequent over an index with the hypothesis `exists i, b` and this goal.
+fn over_one(alloc: Global, goal: Term) -> Result<Sequent, NoMemory> {
+    let mut vars = Seq::new(alloc);
+    vars.push(Sort::Index)?;
+    let mut hyps = Seq::new(alloc);
+    hyps.push(quantified(alloc, false)?)?;
+    Ok(Sequent::Local {
+        side: Side::Both,
+        vars,
+        hyps,
+        goal,
+    })
+}
+
+// Whether the step has one premise of it, over so many variables and with so many hypotheses.
+fn leaves(
+    alloc: Global,
+    universal: bool,
+    step: &Step,
+    vars: usize,
+    hyps: usize,
+) -> Result<bool, NoMemory> {
+    let goal = quantified(alloc, universal)?;
+    let s = over_one(alloc, goal)?;
+    leaves_of(alloc, &s, step, vars, hyps)
+}
+
+fn leaves_of(
+    alloc: Global,
+    s: &Sequent,
+    step: &Step,
+    vars: usize,
+    hyps: usize,
+) -> Result<bool, NoMemory> {
+    let env = Env::new(alloc)?;
+    match premises(alloc, step, s, &env, 0) {
+        Ok(premises) => Ok(is_over(premises.as_slice(), vars, hyps)),
+        Err(_) => Ok(false),
+    }
+}
+
+fn is_over(premises: &[Sequent], count: usize, hyps: usize) -> bool {
+    match premises {
+        [Sequent::Local { vars, .. }] => vars.len() == count && have(premises, &[hyps]),
+        _ => false,
+    }
+}
+
+#[test]
+fn quantifiers_are_opened(rt: HostRuntime) {
+    let alloc = rt.alloc();
+    assert!(rt; leaves(alloc, true, &Step::Alli, 2, 1) == Ok(true), "alli");
+    assert!(rt;
+        leaves(alloc, false, &Step::Alli, 2, 1) == Ok(false),
+        "alli of exists"
+    );
+    assert!(rt; leaves(alloc, true, &Step::Exe(0), 2, 2) == Ok(true), "exe");
+    assert!(rt;
+        leaves(alloc, true, &Step::Exe(1), 2, 2) == Ok(false),
+        "exe past the hypotheses"
     );
 }

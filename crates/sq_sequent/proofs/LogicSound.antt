@@ -1,6 +1,7 @@
 -- The logic rows keep what holds: where each premise holds, the sequent does.
 use Rattle.std.proofs.Common.{◌≡◌, inl, inr, ℕ, ◌==◌, refl, sym, ap, subst, List, [], ◌∷◌, map, Option, Some, None, Ok, Err, Bool, true, false, cond, ◌∙◌}
-use Rattle.std.specs.Prelude.{nat_lt, length}
+use Rattle.std.specs.Prelude.{nat_lt, length, slice_get}
+use Rattle.std.specs.List.{list_all}
 use Rattle.sq_base.specs.declared.sort.Sort.{Sort}
 use Rattle.sq_base.specs.declared.sort.Sort.TheVariants.{Message, Boolean}
 use Rattle.sq_term.specs.declared.term.Side.{Side}
@@ -11,11 +12,14 @@ use Rattle.sq_term.specs.Syntax.{TermTree, ts_eq, idx_eq}
 use Rattle.sq_term.specs.TreeEquality.{is_same_tree}
 use Rattle.sq_term.specs.TsEquality.{is_same_idx-decides, is_same_ts_tree-decides}
 use Rattle.sq_term.proofs.SameTrees.{is_same_tree-decides}
-use Rattle.sq_term.proofs.BoolTests.{number_itself}
+use Rattle.sq_term.proofs.BoolTests.{number_itself, and_split}
 use Rattle.sq_term.specs.Ground.{Ground}
+use Rattle.sq_term.specs.Systems.{ActionTree}
 use Rattle.sq_term.specs.GroundFormulas.{truth_of}
 use Rattle.sq_term.specs.Translate.{Assignment, translate, ts_value, idx_value, is_same_time}
-use Rattle.sq_system.specs.Environments.{EnvTree}
+use Rattle.sq_system.specs.Environments.{StmtTree, EnvTree}
+use Rattle.sq_system.specs.Typing.{Signature, is_binder_sort}
+use Rattle.sq_system.specs.WellFormed.{signature_of, is_sorted, vars_of, is_sequent_of, is_well_formed_for}
 use Rattle.sq_system.specs.Sequents.{SequentTree, trace, local, equiv}
 use Rattle.sq_ground.specs.Truth.{IsTrueAt}
 use Rattle.sq_ground.specs.Rules.{Theory, world_at}
@@ -27,8 +31,8 @@ use Rattle.sq_sequent.specs.declared.step.Step.{Step}
 use Rattle.sq_sequent.specs.declared.step.Step.TheVariants as step
 use Rattle.sq_sequent.specs.declared.fault.RuleFault.TheVariants.{TooLarge}
 use Rattle.sq_sequent.specs.Standing.{term_in}
-use Rattle.sq_system.specs.Sizes.{all_fit}
-use Rattle.sq_sequent.specs.Views.{Two, no_two, two, Equation, no_equation, of_messages, of_times, of_indices, as_equation, hyps_of, goal_of, local_goal_of, hyp_of, binary_in, unary_in, constant_in}
+use Rattle.sq_system.specs.Sizes.{fits, all_fit}
+use Rattle.sq_sequent.specs.Views.{Two, no_two, two, Equation, no_equation, of_messages, of_times, of_indices, as_equation, hyps_of, goal_of, local_goal_of, hyp_of, binary_in, unary_in, constant_in, all_in, some_in}
 use Rattle.sq_sequent.specs.Premises.{falsity, equality, asking, assuming, with_hyps, without, pure_ones, pure_or_false}
 use Rattle.sq_sequent.specs.Logic.{closing_row, hyp_row, impi_row, noti_row, andi_row, orl_row, orr_row, ande_row, ore_row, impe_row, note_row, drop_row, trace_row, is_reflexive, refl_row, sym_row, logic_row, within_limits, judged, logic_premises}
 use Rattle.sq_sequent.specs.Soundness.{PremisesSuffice}
@@ -36,6 +40,8 @@ use Rattle.sq_sequent.proofs.Inversion.{binary_tree, unary_tree, binary_in_is, u
 use Rattle.sq_sequent.proofs.Purity.{pure_alone}
 use Rattle.sq_sequent.proofs.EqualityRules as equals
 use Rattle.sq_sequent.proofs.WrittenSound.{cut_row_sound, em_row_sound, trans_row_sound}
+use Rattle.sq_sequent.proofs.Rows.{of_same_variables}
+use Rattle.sq_sequent.proofs.QuantifierSound.{alli_sound, exe_sound}
 use Rattle.sq_sequent.proofs.Holding.{first_of, second_of, Keeps, no_row, AllTrueIn, TrueIn, assume_both_sound, absurd_sound, cut_sound, contrary_sound, cases_sound, goal_sound, asked_sound, both_asked_sound, intro_sound, hyp_true}
 
 same_time : (t : Option ℕ) → is_same_time t t ≡ true
@@ -215,8 +221,8 @@ module _ (th : Theory) where
   sym_sound (trace vars H g) (two u v) q = let y : None ≡ Some (binary_tree 7 u v) = binary_in_is 7 None u v q in absurd (cc)
   sym_sound (equiv vars H known items) (two u v) q = let y : None ≡ Some (binary_tree 7 u v) = binary_in_is 7 None u v q in absurd (cc)
 
-  -- where each premise of a step holds, the sequent does
-  pub logic_row_sound : (x : Step) (s : SequentTree) (env : EnvTree) (goal : ℕ) → Keeps th s (logic_row x s env goal)
+  -- where each premise of a step that keeps the variables holds, the sequent does
+  pub logic_row_sound : (x : Step) (s : SequentTree) (env : EnvTree) (goal : ℕ) → Keeps th s (of_same_variables x (logic_row x s env goal))
   unfolding logic_row
   logic_row_sound (step.Hyp h) s env goal = hyp_sound s (goal_of s) (hyp_of s h) h refl refl
   logic_row_sound step.True s env goal = true_sound s
@@ -239,6 +245,24 @@ module _ (th : Theory) where
   logic_row_sound (step.Trans w) s env goal = trans_row_sound th s (binary_in 7 (local_goal_of s)) (term_in env goal s Message w) refl
   logic_row_sound _ s env goal = no_row th s
 
+-- of any step, where the sequent is well-sorted
+row_sound : (th : Theory) (g : Signature) (x : Step) (s : SequentTree) (env : EnvTree) (goal : ℕ) → g.vars ≡ vars_of s → is_sorted g s ≡ true → Keeps th s (logic_row x s env goal)
+unfolding logic_row
+row_sound th g step.Alli s env goal over h = alli_sound th g s (all_in (goal_of s)) over h refl
+row_sound th g (step.Exe k) s env goal over h = exe_sound th g s k (some_in (hyp_of s k)) over h refl
+row_sound th g x s env goal over h = logic_row_sound th x s env goal
+
+-- a well-formed sequent is well-sorted over its variables
+sorted_of : (env : EnvTree) (o : Option StmtTree) (s : SequentTree) → is_well_formed_for env o s ≡ true → (g : Signature) × (g.vars ≡ vars_of s) × (is_sorted g s ≡ true)
+sorted_of env None s h = let z : false ≡ true = h in absurd (cc)
+sorted_of env (Some st) s h = of_system (slice_get env.systems st.system) h
+  where
+    of_system : (o : Option (List ActionTree)) → is_sequent_of env o (length st.schemas) s ≡ true → (g : Signature) × (g.vars ≡ vars_of s) × (is_sorted g s ≡ true)
+    of_system None k = let z : false ≡ true = k in absurd (cc)
+    of_system (Some actions) k =
+        let g : Signature = signature_of env actions (length st.schemas) (vars_of s) in
+        (g, refl, (and_split (is_sorted g s) (fits s) (and_split (list_all is_binder_sort (vars_of s)) _ k).1).0)
+
 -- the same of the calculus with its limits, in the words of a clause
 pub logic_sound : (x : Step) (s : SequentTree) (env : EnvTree) (g : ℕ) (ps : List SequentTree) → logic_premises x s env g ≡ Ok ps → PremisesSuffice env g ps s
 unfolding within_limits logic_premises
@@ -249,5 +273,8 @@ logic_sound x s env g ps e w m is_trace earlier h = go (logic_row x s env g) ref
     go (Some qs) f k = within (all_fit qs) refl k
       where
         within : (b : Bool) → all_fit qs ≡ b → cond b (Ok qs) (Err TooLarge) ≡ Ok ps → HoldsAt (theory_of env g m) s
-        within true i j = let same : Some qs ≡ Some ps = cc in logic_row_sound (theory_of env g m) x s env g ps (f ∙ same) h
+        within true i j =
+            let same : Some qs ≡ Some ps = cc in
+            let k = sorted_of env (slice_get env.stmts g) s w in
+            row_sound (theory_of env g m) k.0 x s env g k.1 k.2 ps (f ∙ same) h
         within false i j = absurd (cc)

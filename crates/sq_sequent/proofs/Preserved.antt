@@ -24,13 +24,15 @@ use Rattle.sq_sequent.specs.declared.step.Step.{Step}
 use Rattle.sq_sequent.specs.declared.step.Step.TheVariants as step
 use Rattle.sq_sequent.specs.declared.step.TermArg.{TermArg}
 use Rattle.sq_sequent.specs.declared.fault.RuleFault.TheVariants.{TooLarge}
-use Rattle.sq_sequent.specs.Views.{Two, no_two, two, hyps_of, goal_of, local_goal_of, hyp_of, binary_in, unary_in}
+use Rattle.sq_sequent.specs.Views.{Two, no_two, two, hyps_of, goal_of, local_goal_of, hyp_of, binary_in, unary_in, all_in, some_in}
 use Rattle.sq_sequent.specs.Places.{term_at}
 use Rattle.sq_sequent.specs.Standing.{signature_for, where_standing, term_in}
 use Rattle.sq_sequent.specs.Premises.{falsity, negation, equality, asking, assuming, with_hyps, without, pure_ones, pure_or_false}
 use Rattle.sq_sequent.specs.Logic.{closing_row, hyp_row, impi_row, noti_row, andi_row, orl_row, orr_row, ande_row, ore_row, impe_row, note_row, cut_row, em_row, drop_row, trace_row, refl_row, sym_row, trans_row, logic_row, within_limits, judged, logic_premises}
 use Rattle.sq_sequent.proofs.BuiltinSorts.{falsity-formula}
 use Rattle.sq_sequent.proofs.Inversion.{binary_tree, unary_tree, binary_in_is, unary_in_is}
+use Rattle.sq_sequent.proofs.Rows.{of_same_variables}
+use Rattle.sq_sequent.proofs.QuantifierSorts.{IsSorted, alli-sorts, exe-sorts}
 use Rattle.sq_sequent.proofs.Suited.{suited, suited-formula, suited-from, hyp-suited, goal-suited, assuming-sorted, asking-sorted, asking-suits, assuming-suits, without-sorted, pure_ones-sorted, conjunct-first, conjunct-second, disjunct-first, disjunct-second, implication-first, implication-second, negated}
 use Rattle.sq_sequent.proofs.WrittenSuited.{signature-at, same-vars, Stands, stands-suited, negation-suited, equation-sides, equation-of, written-stands}
 
@@ -260,7 +262,7 @@ module _ (g : Signature) (ok : are_functions g.funs ≡ true) where
   written env goal s sort a e =
       subst (λ i. Stands i s sort (where_standing env goal s sort (term_at s a))) (sym (e ∙ ap (signature_for env goal) (same-vars s))) (written-stands env goal s sort (term_at s a))
 
-  pub row-sorts : (x : Step) (s : SequentTree) (env : EnvTree) (goal : ℕ) → g ≡ signature_for env goal (vars_of s) → is_sorted g s ≡ true → Sorts s (logic_row x s env goal)
+  pub row-sorts : (x : Step) (s : SequentTree) (env : EnvTree) (goal : ℕ) → g ≡ signature_for env goal (vars_of s) → is_sorted g s ≡ true → Sorts s (of_same_variables x (logic_row x s env goal))
   unfolding logic_row
   row-sorts (step.Hyp k) s env goal e h = hyp-sorts s (goal_of s) (hyp_of s k)
   row-sorts step.True s env goal e h = none_left s _
@@ -290,21 +292,33 @@ fit-at [] h = each_none (λ p. fits p ≡ true)
 fit-at (q ∷ qs) h = let k = and_split (fits q) (all_fit qs) h in each_cons q qs (λ p. fits p ≡ true) k.0 (fit-at qs k.1)
 
 -- with the goal's system and its count of schema variables
+module _ (e : EnvTree) (actions : List ActionTree) (n : ℕ) (ok : are_functions e.funs ≡ true) where
+  abbrev over_vars_of : SequentTree → Signature
+  over_vars_of s = signature_of e actions n (vars_of s)
+
+  same_variables : (s p : SequentTree) → list_all is_binder_sort (vars_of s) ≡ true → (vars_of p ≡ vars_of s) × (is_sorted (over_vars_of s) p ≡ true) → IsSorted (over_vars_of s) p
+  same_variables s p b (q, r) = (ap (list_all is_binder_sort) q ∙ b, ap (λ vs. is_sorted (signature_of e actions n vs) p) q ∙ r)
+
+  -- each premise of any row is well-sorted
+  any-row-sorts : (x : Step) (s : SequentTree) (env : EnvTree) (goal : ℕ) → over_vars_of s ≡ signature_for env goal (vars_of s)
+      → list_all is_binder_sort (vars_of s) ≡ true → is_sorted (over_vars_of s) s ≡ true
+      → (ps : List SequentTree) → logic_row x s env goal ≡ Some ps → Each (IsSorted (over_vars_of s)) ps
+  unfolding logic_row
+  any-row-sorts step.Alli s env goal same b h ps r = alli-sorts (over_vars_of s) s (all_in (goal_of s)) refl b h refl ps r
+  any-row-sorts (step.Exe k) s env goal same b h ps r = exe-sorts (over_vars_of s) s k (some_in (hyp_of s k)) refl b h refl ps r
+  any-row-sorts x s env goal same b h ps r = λ p i. same_variables s p b (row-sorts (over_vars_of s) ok x s env goal same h ps r p i)
+
+  judged_premise : (s p : SequentTree) → IsSorted (over_vars_of s) p → fits p ≡ true → is_sequent_of e (Some actions) n p ≡ true
+  judged_premise s p (b, r) fit = and_both (list_all is_binder_sort (vars_of p)) _ b (and_both (is_sorted (over_vars_of p) p) (fits p) r fit)
+
 premise-of : (e : EnvTree) (actions : Option (List ActionTree)) (n : ℕ) (x : Step) (s : SequentTree) (env : EnvTree) (goal : ℕ) (ps : List SequentTree)
     → ((xs : List ActionTree) → actions ≡ Some xs → signature_of e xs n (vars_of s) ≡ signature_for env goal (vars_of s))
     → are_functions e.funs ≡ true → is_sequent_of e actions n s ≡ true → logic_row x s env goal ≡ Some ps → all_fit ps ≡ true → Each (λ p. is_sequent_of e actions n p ≡ true) ps
 premise-of e None n x s env goal ps same ok h r f = absurd (cc)
 premise-of e (Some actions) n x s env goal ps same ok h r f =
-    let g : Signature = signature_of e actions n (vars_of s) in
     let v = and_split (list_all is_binder_sort (vars_of s)) _ h in
     let w = and_split (is_sorted (signature_of e actions n (vars_of s)) s) (fits s) v.1 in
-    λ p i. judged_premise p (row-sorts (signature_of e actions n (vars_of s)) ok x s env goal (same actions refl) w.0 ps r p i) (fit-at ps f p i) v.0
-  where
-    judged_premise : (p : SequentTree) → (vars_of p ≡ vars_of s) × (is_sorted (signature_of e actions n (vars_of s)) p ≡ true) → fits p ≡ true
-        → list_all is_binder_sort (vars_of s) ≡ true → is_sequent_of e (Some actions) n p ≡ true
-    judged_premise p (q, r) fit binders =
-        and_both (list_all is_binder_sort (vars_of p)) _ (ap (list_all is_binder_sort) q ∙ binders)
-        (and_both (is_sorted (signature_of e actions n (vars_of p)) p) (fits p) (ap (λ vs. is_sorted (signature_of e actions n vs) p) q ∙ r) fit)
+    λ p i. judged_premise e actions n ok s p (any-row-sorts e actions n ok x s env goal (same actions refl) v.0 w.0 ps r p i) (fit-at ps f p i)
 
 pub premise_for : (env : EnvTree) (goal : ℕ) (g : Option StmtTree) (x : Step) (s : SequentTree) (ps : List SequentTree)
     → slice_get env.stmts goal ≡ g → are_functions env.funs ≡ true → is_well_formed_for env g s ≡ true → logic_row x s env goal ≡ Some ps → all_fit ps ≡ true

@@ -13,8 +13,10 @@ use Rattle.sq_sequent.specs.declared.step.Step.{Step}
 use Rattle.sq_sequent.specs.declared.step.Step.TheVariants as step
 use Rattle.sq_sequent.specs.Standing.{term_in}
 use Rattle.sq_system.specs.Sizes.{all_fit}
-use Rattle.sq_sequent.specs.Views.{Two, no_two, two, Equation, no_equation, of_messages, of_times, of_indices, as_equation, hyps_of, hyp_of, goal_of, local_goal_of, binary_in, unary_in, constant_in}
-use Rattle.sq_sequent.specs.Premises.{falsity, negation, equality, asking, assuming, with_hyps, without, pure_ones, pure_or_false}
+use Rattle.sq_subst.specs.Substitution.{opened}
+use Rattle.sq_subst.specs.Room as room
+use Rattle.sq_sequent.specs.Views.{Two, no_two, two, Binding, no_binding, binding, Equation, no_equation, of_messages, of_times, of_indices, as_equation, hyps_of, hyp_of, goal_of, local_goal_of, binary_in, unary_in, constant_in, all_in, some_in}
+use Rattle.sq_sequent.specs.Premises.{falsity, negation, equality, asking, assuming, with_hyps, with_variable, new_variable, without, pure_ones, pure_or_false}
 
 abbrev pub sequent_trees : List Sequent → List SequentTree
 sequent_trees ss = map sequent_tree ss
@@ -37,6 +39,11 @@ impi_row s (two a b) = Some (assuming (asking s b) a ∷ [])
 abbrev pub noti_row : SequentTree → Option TermTree → Option (List SequentTree)
 noti_row s None = None
 noti_row s (Some a) = Some (assuming (asking s falsity) a ∷ [])
+
+-- alli: the goal is `forall x, F`
+abbrev pub alli_row : SequentTree → Binding → Option (List SequentTree)
+alli_row s no_binding = None
+alli_row s (binding x F) = Some (with_variable x (asking s (opened (new_variable x s) F)) ∷ [])
 
 -- andi: the goal is `a && b`
 abbrev pub andi_row : SequentTree → Two → Option (List SequentTree)
@@ -71,6 +78,11 @@ impe_row s (two a b) = Some (asking s a ∷ assuming s b ∷ [])
 abbrev pub note_row : SequentTree → Option TermTree → Option (List SequentTree)
 note_row s None = None
 note_row s (Some a) = Some (asking s a ∷ [])
+
+-- exe: the hypothesis is `exists x, F`
+abbrev pub exe_row : SequentTree → Binding → Option (List SequentTree)
+exe_row s no_binding = None
+exe_row s (binding x F) = Some (with_variable x (assuming s (opened (new_variable x s) F)) ∷ [])
 
 -- cut and em: of a formula
 abbrev pub cut_row : SequentTree → Option TermTree → Option (List SequentTree)
@@ -121,6 +133,7 @@ logic_row step.True s env goal = closing_row (constant_in 1 (goal_of s))
 logic_row (step.Absurd h) s env goal = closing_row (constant_in 2 (hyp_of s h))
 logic_row step.Impi s env goal = impi_row s (binary_in 6 (goal_of s))
 logic_row step.Noti s env goal = noti_row s (unary_in 3 (goal_of s))
+logic_row step.Alli s env goal = alli_row s (all_in (goal_of s))
 logic_row step.Andi s env goal = andi_row s (binary_in 4 (goal_of s))
 logic_row step.Orl s env goal = orl_row s (binary_in 5 (goal_of s))
 logic_row step.Orr s env goal = orr_row s (binary_in 5 (goal_of s))
@@ -128,6 +141,7 @@ logic_row (step.Ande h) s env goal = ande_row s (binary_in 4 (hyp_of s h))
 logic_row (step.Ore h) s env goal = ore_row s (binary_in 5 (hyp_of s h))
 logic_row (step.Impe h) s env goal = impe_row s (binary_in 6 (hyp_of s h))
 logic_row (step.Note h) s env goal = note_row s (unary_in 3 (hyp_of s h))
+logic_row (step.Exe h) s env goal = exe_row s (some_in (hyp_of s h))
 logic_row (step.Cut F) s env goal = cut_row s (term_in env goal s Boolean F)
 logic_row (step.Em F) s env goal = em_row s (term_in env goal s Boolean F)
 logic_row (step.Drop h) s env goal = drop_row s h
@@ -136,6 +150,10 @@ logic_row step.Refl s env goal = refl_row s
 logic_row step.Sym s env goal = sym_row s (binary_in 7 (local_goal_of s))
 logic_row (step.Trans w) s env goal = trans_row s (binary_in 7 (local_goal_of s)) (term_in env goal s Message w)
 logic_row _ s env goal = None
+
+-- the term, or TooLarge where no sequent may hold it
+abbrev pub held : TermTree → Result TermTree RuleFault
+held t = cond (room.fits 8388608 t) (Ok t) (Err TooLarge)
 
 unfoldable pub within_limits : List SequentTree → Result (List SequentTree) RuleFault
 within_limits ps = cond (all_fit ps) (Ok ps) (Err TooLarge)

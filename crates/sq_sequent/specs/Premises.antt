@@ -1,8 +1,11 @@
 -- The premises of rows, made from the sequent that they are to show.
-use Rattle.std.specs.Prelude.{ℕ, zero, suc, List, [], ◌∷◌, ◌++◌, cond}
+use Rattle.std.specs.Prelude.{ℕ, zero, suc, length, List, [], ◌∷◌, ◌++◌, cond}
 use Rattle.sq_base.specs.declared.sort.Sort.{Sort}
+use Rattle.sq_base.specs.declared.sort.Sort.TheVariants as sort
+use Rattle.sq_term.specs.declared.term.Idx.TheVariants as idx
+use Rattle.sq_term.specs.Arguments.{ArgTree, an_index, a_time}
 use Rattle.sq_term.specs.Pure.{is_pure}
-use Rattle.sq_term.specs.Syntax.{TermTree, fun, nil, cons}
+use Rattle.sq_term.specs.Syntax.{free, TermTree, fun, nil, cons}
 use Rattle.sq_system.specs.Sequents.{SequentTree, trace, local, equiv}
 
 -- formulas
@@ -44,6 +47,21 @@ unfoldable pub with_hyps : List TermTree → SequentTree → SequentTree
 with_hyps hyps (trace vars old goal) = trace vars hyps goal
 with_hyps hyps (local side vars old goal) = local side vars hyps goal
 with_hyps hyps (equiv vars old known items) = equiv vars hyps known items
+
+-- one more variable
+unfoldable pub with_variable : Sort → SequentTree → SequentTree
+with_variable s (trace vars hyps goal) = trace (vars ++ s ∷ []) hyps goal
+with_variable s (local side vars hyps goal) = local side (vars ++ s ∷ []) hyps goal
+with_variable s (equiv vars hyps known items) = equiv (vars ++ s ∷ []) hyps known items
+
+-- variable k, of this sort
+abbrev pub variable : Sort → ℕ → ArgTree
+variable sort.Index k = an_index (idx.Free k)
+variable s k = a_time (free k)
+
+-- the variable behind those of the sequent
+abbrev pub new_variable : Sort → SequentTree → ArgTree
+new_variable s q = variable s (length (vars_of q))
 
 -- a list without its element k
 abbrev pub without : {A : Type 0} → List A → ℕ → List A

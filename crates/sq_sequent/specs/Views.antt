@@ -1,7 +1,8 @@
 -- What a row asks of the shape of a formula, as questions with an answer.
 use Rattle.std.specs.Prelude.{ℕ, ◌==◌, Bool, true, false, List, [], Option, Some, None, slice_get}
+use Rattle.sq_base.specs.declared.sort.Sort.{Sort}
 use Rattle.sq_term.specs.declared.term.Idx.{Idx}
-use Rattle.sq_term.specs.Syntax.{TsTree, TermTree, fun, ts_eq, idx_eq, TermTrees, nil, cons}
+use Rattle.sq_term.specs.Syntax.{TsTree, TermTree, fun, ts_eq, idx_eq, all, some, TermTrees, nil, cons}
 use Rattle.sq_system.specs.Sequents.{Item, SequentTree, trace, local, equiv}
 
 -- two terms, or none
@@ -45,6 +46,19 @@ constant_where q is ts = false
 unfoldable pub is_constant : ℕ → TermTree → Bool
 is_constant f (fun g is ts) = constant_where (g == f) is ts
 is_constant f _ = false
+
+-- the sort that a quantifier binds and its body, or none
+pub data Binding : Type 0 where
+  no_binding : Binding
+  binding : Sort → TermTree → Binding
+
+unfoldable pub as_all : TermTree → Binding
+as_all (all s t) = binding s t
+as_all _ = no_binding
+
+unfoldable pub as_some : TermTree → Binding
+as_some (some s t) = binding s t
+as_some _ = no_binding
 
 -- an equation of messages, timestamps or indices, or none
 pub data Equation : Type 0 where
@@ -103,3 +117,11 @@ unary_in f (Some t) = as_unary f t
 unfoldable pub constant_in : ℕ → Option TermTree → Bool
 constant_in f None = false
 constant_in f (Some t) = is_constant f t
+
+unfoldable pub all_in : Option TermTree → Binding
+all_in None = no_binding
+all_in (Some t) = as_all t
+
+unfoldable pub some_in : Option TermTree → Binding
+some_in None = no_binding
+some_in (Some t) = as_some t

@@ -1,6 +1,7 @@
 //! Sequents with the steps of the calculus, and the rows of its logic family as definitions.
 #![tactic(auto)]
 
+mod binders;
 mod fault;
 mod formulas;
 mod limits;
@@ -11,6 +12,7 @@ mod standing;
 mod step;
 mod views;
 
+pub use binders::{all_in, as_all, as_some, open_new, some_in, with_variable};
 pub use fault::{KeyUse, Occ, Role, RuleFault};
 pub use formulas::{binary, constant, equation, negation, unary};
 pub use limits::{MAX_DEPTH, MAX_NODES, fits, judge};
