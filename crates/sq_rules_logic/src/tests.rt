@@ -93,15 +93,25 @@ fn of_letter(alloc: Global, step: Step, counts: &[usize]) -> Result<bool, NoMemo
     of_goal(alloc, goal, step, counts)
 }
 
+fn goal_of_two(alloc: Global, function: Builtin) -> Result<Sequent, NoMemory> {
+    let goal = two(alloc, function)?;
+    local(alloc, goal)
+}
+
 // The same where this function of b and c is to be shown.
 fn of_two(
     alloc: Global,
     function: Builtin,
-    step: Step,
+    step: &Step,
     counts: &[usize],
 ) -> Result<bool, NoMemory> {
-    let goal = two(alloc, function)?;
-    of_goal(alloc, goal, step, counts)
+    let s = goal_of_two(alloc, function)?;
+    of_sequent(alloc, &s, step, counts)
+}
+
+fn true_is_shown(alloc: Global) -> Result<bool, NoMemory> {
+    let goal = constant(alloc, Builtin::True);
+    of_goal(alloc, goal, Step::True, &[])
 }
 
 #[test]
@@ -128,8 +138,7 @@ fn rows_close(rt: HostRuntime) {
         of_letter(alloc, Step::True, &[]) == Ok(false),
         "true of a letter"
     );
-    let yes = constant(alloc, Builtin::True);
-    assert!(rt; of_goal(alloc, yes, Step::True, &[]) == Ok(true), "true");
+    assert!(rt; true_is_shown(alloc) == Ok(true), "true");
 }
 
 #[test]
@@ -178,27 +187,27 @@ fn hypotheses_are_dropped(rt: HostRuntime) {
 fn goals_are_taken_apart(rt: HostRuntime) {
     let alloc = rt.alloc();
     assert!(rt;
-        of_two(alloc, Builtin::And, Step::Andi, &[6, 6]) == Ok(true),
+        of_two(alloc, Builtin::And, &Step::Andi, &[6, 6]) == Ok(true),
         "andi"
     );
     assert!(rt;
-        of_two(alloc, Builtin::Or, Step::Andi, &[6, 6]) == Ok(false),
+        of_two(alloc, Builtin::Or, &Step::Andi, &[6, 6]) == Ok(false),
         "andi of a disjunction"
     );
     assert!(rt;
-        of_two(alloc, Builtin::Or, Step::Orl, &[6]) == Ok(true),
+        of_two(alloc, Builtin::Or, &Step::Orl, &[6]) == Ok(true),
         "orl"
     );
     assert!(rt;
-        of_two(alloc, Builtin::Or, Step::Orr, &[6]) == Ok(true),
+        of_two(alloc, Builtin::Or, &Step::Orr, &[6]) == Ok(true),
         "orr"
     );
     assert!(rt;
-        of_two(alloc, Builtin::And, Step::Orr, &[6]) == Ok(false),
+        of_two(alloc, Builtin::And, &Step::Orr, &[6]) == Ok(false),
         "orr of a conjunction"
     );
     assert!(rt;
-        of_two(alloc, Builtin::Implies, Step::Impi, &[7]) == Ok(true),
+        of_two(alloc, Builtin::Implies, &Step::Impi, &[7]) == Ok(true),
         "impi"
     );
     assert!(rt;
@@ -206,7 +215,7 @@ fn goals_are_taken_apart(rt: HostRuntime) {
         "impi of a letter"
     );
     assert!(rt;
-        of_two(alloc, Builtin::Or, Step::Noti, &[7]) == Ok(false),
+        of_two(alloc, Builtin::Or, &Step::Noti, &[7]) == Ok(false),
         "noti of a disjunction"
     );
 }
@@ -215,15 +224,15 @@ fn goals_are_taken_apart(rt: HostRuntime) {
 fn equations_are_turned(rt: HostRuntime) {
     let alloc = rt.alloc();
     assert!(rt;
-        of_two(alloc, Builtin::Eq, Step::Sym, &[6]) == Ok(true),
+        of_two(alloc, Builtin::Eq, &Step::Sym, &[6]) == Ok(true),
         "sym"
     );
     assert!(rt;
-        of_two(alloc, Builtin::Or, Step::Sym, &[6]) == Ok(false),
+        of_two(alloc, Builtin::Or, &Step::Sym, &[6]) == Ok(false),
         "sym of a disjunction"
     );
     assert!(rt;
-        of_two(alloc, Builtin::Eq, Step::Refl, &[]) == Ok(false),
+        of_two(alloc, Builtin::Eq, &Step::Refl, &[]) == Ok(false),
         "refl of two letters"
     );
     assert!(rt; refl_of_one(alloc) == Ok(true), "refl of one letter");
@@ -234,52 +243,56 @@ fn refl_of_one(alloc: Global) -> Result<bool, NoMemory> {
     of_goal(alloc, goal, Step::Refl, &[])
 }
 
-// Whether the step has no premises of a Trace sequent, whose goal is its one hypothesis.
-fn closes_trace(alloc: Global, step: Step) -> Result<bool, NoMemory> {
+fn only_false(alloc: Global) -> Result<Seq<Term>, NoMemory> {
     let mut hyps = Seq::new(alloc);
     hyps.push(constant(alloc, Builtin::False))?;
+    Ok(hyps)
+}
+
+// Whether the step has no premises of a Trace sequent, whose goal is its one hypothesis.
+fn closes_trace(alloc: Global, step: &Step) -> Result<bool, NoMemory> {
+    let hyps = only_false(alloc)?;
     let s = Sequent::Trace {
         vars: Seq::new(alloc),
         hyps,
         goal: constant(alloc, Builtin::False),
     };
-    of_sequent(alloc, &s, &step, &[])
+    of_sequent(alloc, &s, step, &[])
 }
 
 // Whether the step has no premises of an equivalence with the hypothesis false.
-fn closes_equivalence(alloc: Global, step: Step) -> Result<bool, NoMemory> {
-    let mut hyps = Seq::new(alloc);
-    hyps.push(constant(alloc, Builtin::False))?;
+fn closes_equivalence(alloc: Global, step: &Step) -> Result<bool, NoMemory> {
+    let hyps = only_false(alloc)?;
     let s = Sequent::Equiv {
         vars: Seq::new(alloc),
         hyps,
         known: Seq::new(alloc),
         items: Seq::new(alloc),
     };
-    of_sequent(alloc, &s, &step, &[])
+    of_sequent(alloc, &s, step, &[])
 }
 
 #[test]
 fn rows_are_of_their_kinds(rt: HostRuntime) {
     let alloc = rt.alloc();
     assert!(rt;
-        closes_trace(alloc, Step::Hyp(0)) == Ok(true),
+        closes_trace(alloc, &Step::Hyp(0)) == Ok(true),
         "hyp of a Trace sequent"
     );
     assert!(rt;
-        closes_trace(alloc, Step::Trace) == Ok(false),
+        closes_trace(alloc, &Step::Trace) == Ok(false),
         "trace of a Trace sequent"
     );
     assert!(rt;
-        closes_equivalence(alloc, Step::Absurd(0)) == Ok(true),
+        closes_equivalence(alloc, &Step::Absurd(0)) == Ok(true),
         "absurd of an equivalence"
     );
     assert!(rt;
-        closes_equivalence(alloc, Step::Hyp(0)) == Ok(false),
+        closes_equivalence(alloc, &Step::Hyp(0)) == Ok(false),
         "hyp of an equivalence"
     );
     assert!(rt;
-        closes_equivalence(alloc, Step::Erefl) == Ok(false),
+        closes_equivalence(alloc, &Step::Erefl) == Ok(false),
         "a step of another family"
     );
 }
@@ -316,16 +329,29 @@ fn noti_asks_false(rt: HostRuntime) {
     );
 }
 
-// Whether a cut of this argument has its two premises, where `not(true)` is to be shown.
-fn cuts(alloc: Global, side: Side, formula: TermArg) -> Result<bool, NoMemory> {
-    let goal = unary(alloc, Builtin::Not, constant(alloc, Builtin::True))?;
-    let s = Sequent::Local {
+fn not_true(alloc: Global) -> Result<Term, NoMemory> {
+    unary(alloc, Builtin::Not, constant(alloc, Builtin::True))
+}
+
+// `not(true)` is to be shown, without hypotheses.
+fn of_not_true(alloc: Global, side: Side) -> Result<Sequent, NoMemory> {
+    let goal = not_true(alloc)?;
+    Ok(Sequent::Local {
         side,
         vars: Seq::new(alloc),
         hyps: Seq::new(alloc),
         goal,
-    };
-    of_sequent(alloc, &s, &Step::Cut(formula), &[0, 1])
+    })
+}
+
+fn cuts_by(alloc: Global, side: Side, step: Step) -> Result<bool, NoMemory> {
+    let s = of_not_true(alloc, side)?;
+    of_sequent(alloc, &s, &step, &[0, 1])
+}
+
+// Whether a cut of this argument has its two premises, where `not(true)` is to be shown.
+fn cuts(alloc: Global, side: Side, formula: TermArg) -> Result<bool, NoMemory> {
+    cuts_by(alloc, side, Step::Cut(formula))
 }
 
 fn cuts_at(alloc: Global, place: Place, node: u32) -> Result<bool, NoMemory> {
@@ -352,6 +378,10 @@ fn written(alloc: Global, function: Builtin, side: Side) -> Result<bool, NoMemor
     cuts(alloc, side, TermArg::Written(constant(alloc, function)))
 }
 
+fn cuts_unknown(alloc: Global) -> Result<bool, NoMemory> {
+    cuts(alloc, Side::Both, TermArg::Written(letter(alloc, B)))
+}
+
 // `diff(true, true)` on this side.
 fn cuts_diff(alloc: Global, side: Side) -> Result<bool, NoMemory> {
     let left = Boxed::new(alloc, constant(alloc, Builtin::True)).or(Err(NoMemory))?;
@@ -370,10 +400,7 @@ fn a_cut_is_of_what_may_stand(rt: HostRuntime) {
         written(alloc, Builtin::Empty, Side::Both) == Ok(false),
         "a message"
     );
-    assert!(rt;
-        cuts(alloc, Side::Both, TermArg::Written(letter(alloc, B))) == Ok(false),
-        "an unknown function"
-    );
+    assert!(rt; cuts_unknown(alloc) == Ok(false), "an unknown function");
     assert!(rt;
         cuts_diff(alloc, Side::Both) == Ok(true),
         "diff on both sides"
@@ -384,29 +411,40 @@ fn a_cut_is_of_what_may_stand(rt: HostRuntime) {
     );
 }
 
+fn cases_of(alloc: Global, function: Builtin) -> Result<bool, NoMemory> {
+    let step = Step::Em(TermArg::Written(constant(alloc, function)));
+    of_letter(alloc, step, &[7, 7])
+}
+
+fn goes_by(alloc: Global, goal: Builtin, step: Step) -> Result<bool, NoMemory> {
+    let s = goal_of_two(alloc, goal)?;
+    of_sequent(alloc, &s, &step, &[6, 6])
+}
+
+// Whether this constant may stand between b and c under this function.
+fn is_between(alloc: Global, goal: Builtin, between: Builtin) -> Result<bool, NoMemory> {
+    let between = TermArg::Written(constant(alloc, between));
+    goes_by(alloc, goal, Step::Trans(between))
+}
+
 #[test]
 fn cases_and_steps_between(rt: HostRuntime) {
     let alloc = rt.alloc();
-    let yes = TermArg::Written(constant(alloc, Builtin::True));
-    assert!(rt; of_letter(alloc, Step::Em(yes), &[7, 7]) == Ok(true), "em");
-    let message = TermArg::Written(constant(alloc, Builtin::Empty));
+    assert!(rt; cases_of(alloc, Builtin::True) == Ok(true), "em");
     assert!(rt;
-        of_letter(alloc, Step::Em(message), &[7, 7]) == Ok(false),
+        cases_of(alloc, Builtin::Empty) == Ok(false),
         "em of a message"
     );
-    let message = TermArg::Written(constant(alloc, Builtin::Empty));
     assert!(rt;
-        of_two(alloc, Builtin::Eq, Step::Trans(message), &[6, 6]) == Ok(true),
+        is_between(alloc, Builtin::Eq, Builtin::Empty) == Ok(true),
         "trans"
     );
-    let formula = TermArg::Written(constant(alloc, Builtin::True));
     assert!(rt;
-        of_two(alloc, Builtin::Eq, Step::Trans(formula), &[6, 6]) == Ok(false),
+        is_between(alloc, Builtin::Eq, Builtin::True) == Ok(false),
         "trans by a formula"
     );
-    let message = TermArg::Written(constant(alloc, Builtin::Empty));
     assert!(rt;
-        of_two(alloc, Builtin::Or, Step::Trans(message), &[6, 6]) == Ok(false),
+        is_between(alloc, Builtin::Or, Builtin::Empty) == Ok(false),
         "trans of a disjunction"
     );
 }
