@@ -1,0 +1,5 @@
+pub mod Rows
+pub mod Limits
+pub mod Walks
+pub mod TypedLaws
+pub mod PlaceLaws

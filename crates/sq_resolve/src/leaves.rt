@@ -1,0 +1,179 @@
+// Terms without terms in them: constants, and what is said of indices and timestamps.
+ghost use Rattle.std.specs.Prelude.{◌≡◌, IfOk, MatchResult, Ok, true, false};
+ghost use Rattle.sq_ast.specs.View.{formula_tree};
+ghost use Rattle.sq_term.specs.Syntax as t;
+ghost use Rattle.sq_term.specs.View.{ts_tree, term_tree};
+ghost use Rattle.sq_system.specs.Typing.{macro_sort as spec_macro_sort};
+ghost use Rattle.sq_term.specs.TreeEquality.{is_same_sort};
+ghost use Rattle.sq_resolve.specs.Built.{Builds};
+ghost use Rattle.sq_resolve.specs.Heads.{context_of};
+ghost use Rattle.sq_resolve.specs.Resolved.{both, mapped, expect as spec_expect, call0, call1, call2, index_of, time_of, before as spec_before, macro_of as spec_macro_of, constant_sort as spec_constant_sort, constant_number as spec_constant_number};
+
+use crate::built::{function, measured};
+use crate::fault::ResolveFault;
+use crate::head::Resolver;
+use crate::judge::{constant_sort, macro_of, macro_sort};
+use crate::row::no_row;
+use crate::sized::Built;
+use crate::times::{index, time};
+use sq_ast::{Constant, Formula, MacroWord};
+use sq_base::{NoMemory, Seq, Sort, Text};
+use sq_term::{Term, Ts, copy_ts};
+use sqlite_items::Items;
+use std::alloc::Global;
+
+/// A form of the sort `own` where `want` is wanted.
+pub fn expect(want: Sort, own: Sort) -> Result<(), ResolveFault>
+    ensures { MatchResult result (λ _. is_same_sort want own ≡ true) (λ e. (is_same_sort want own ≡ false) × (e ≡ ResolveFault.SortClash want own)) }
+{
+    if want == own {
+        Ok(())
+    } else {
+        Err(ResolveFault::SortClash(want, own))
+    }
+}
+
+fn constant_number(k: Constant) -> u32
+    ensures { result ≡ spec_constant_number k }
+{
+    match k {
+        Constant::True => 1,
+        Constant::False => 2,
+        Constant::Empty | Constant::Init => 0,
+    }
+}
+
+pub fn constant(r: &Resolver<'_>, want: Sort, k: Constant) -> Result<Built, ResolveFault>
+    ensures { Builds result (spec_expect want (spec_constant_sort k) (Ok (call0 (spec_constant_number k)))) }
+{
+    expect(want, constant_sort(k))?;
+    Ok(function(constant_number(k), Seq::new(r.alloc), no_row(r.alloc)))
+}
+
+#[tactic(auto, using(sq_term::proofs::Views::tree_rules))]
+pub fn indices_equal(
+    r: &Resolver<'_>,
+    binders: &[(Text, Sort)],
+    want: Sort,
+    a: &Formula,
+    b: &Formula,
+) -> Result<Built, ResolveFault>
+    ensures { Builds result (spec_expect want Sort.Boolean
+        (both t.idx_eq (index_of (context_of r.now) binders.now (formula_tree a.now)) (index_of (context_of r.now) binders.now (formula_tree b.now)))) }
+{
+    expect(want, Sort::Boolean)?;
+    let left = index(r, binders, a)?;
+    let right = index(r, binders, b)?;
+    Ok(measured(Term::IdxEq(left, right)))
+}
+
+#[tactic(auto, using(sq_term::proofs::Views::tree_rules))]
+pub fn times_equal(
+    r: &Resolver<'_>,
+    binders: &[(Text, Sort)],
+    want: Sort,
+    a: &Formula,
+    b: &Formula,
+) -> Result<Built, ResolveFault>
+    ensures { Builds result (spec_expect want Sort.Boolean
+        (both t.ts_eq (time_of (context_of r.now) binders.now (formula_tree a.now)) (time_of (context_of r.now) binders.now (formula_tree b.now)))) }
+{
+    expect(want, Sort::Boolean)?;
+    let left = time(r, binders, a)?;
+    let right = time(r, binders, b)?;
+    Ok(measured(Term::TsEq(left, right)))
+}
+
+#[tactic(auto, using(sq_term::proofs::Views::tree_rules))]
+pub fn less_equal(
+    r: &Resolver<'_>,
+    binders: &[(Text, Sort)],
+    want: Sort,
+    a: &Formula,
+    b: &Formula,
+) -> Result<Built, ResolveFault>
+    ensures { Builds result (spec_expect want Sort.Boolean
+        (both t.le (time_of (context_of r.now) binders.now (formula_tree a.now)) (time_of (context_of r.now) binders.now (formula_tree b.now)))) }
+{
+    expect(want, Sort::Boolean)?;
+    let left = time(r, binders, a)?;
+    let right = time(r, binders, b)?;
+    Ok(measured(Term::Le(left, right)))
+}
+
+#[tactic(auto, using(sq_term::proofs::Views::open_rules))]
+fn call_of_one(alloc: Global, f: u32, a: Term) -> Result<Term, NoMemory>
+    ensures { IfOk result (λ u. term_tree u ≡ call1 f (term_tree a)) }
+{
+    let mut args = Items::new(alloc);
+    args.push(a)?;
+    Ok(Term::Fun(f, Seq::new(alloc), args))
+}
+
+#[tactic(auto, using(sq_term::proofs::Views::open_rules))]
+fn call_of_two(alloc: Global, f: u32, a: Term, b: Term) -> Result<Term, NoMemory>
+    ensures { IfOk result (λ u. term_tree u ≡ call2 f (term_tree a) (term_tree b)) }
+{
+    let mut args = Items::new(alloc);
+    args.push(a)?;
+    args.push(b)?;
+    Ok(Term::Fun(f, Seq::new(alloc), args))
+}
+
+// `T < S` is `T <= S && not(T = S)`.
+#[tactic(auto, using(sq_term::proofs::Views::open_rules))]
+fn before(alloc: Global, left: Ts, right: Ts) -> Result<Term, NoMemory>
+    ensures { IfOk result (λ u. term_tree u ≡ spec_before (ts_tree left) (ts_tree right)) }
+{
+    let equal = Term::TsEq(copy_ts(alloc, &left)?, copy_ts(alloc, &right)?);
+    let apart = call_of_one(alloc, 3, equal)?;
+    call_of_two(alloc, 4, Term::Le(left, right), apart)
+}
+
+pub fn less(
+    r: &Resolver<'_>,
+    binders: &[(Text, Sort)],
+    want: Sort,
+    a: &Formula,
+    b: &Formula,
+) -> Result<Built, ResolveFault>
+    ensures { Builds result (spec_expect want Sort.Boolean
+        (both spec_before (time_of (context_of r.now) binders.now (formula_tree a.now)) (time_of (context_of r.now) binders.now (formula_tree b.now)))) }
+{
+    expect(want, Sort::Boolean)?;
+    let left = time(r, binders, a)?;
+    let right = time(r, binders, b)?;
+    let term = before(r.alloc, left, right)?;
+    Ok(measured(term))
+}
+
+#[tactic(auto, using(sq_term::proofs::Views::tree_rules))]
+pub fn happens(
+    r: &Resolver<'_>,
+    binders: &[(Text, Sort)],
+    want: Sort,
+    a: &Formula,
+) -> Result<Built, ResolveFault>
+    ensures { Builds result (spec_expect want Sort.Boolean (mapped t.happens (time_of (context_of r.now) binders.now (formula_tree a.now)))) }
+{
+    expect(want, Sort::Boolean)?;
+    let at = time(r, binders, a)?;
+    Ok(measured(Term::Happens(at)))
+}
+
+#[tactic(auto, using(sq_term::proofs::Views::tree_rules))]
+pub fn macro_at(
+    r: &Resolver<'_>,
+    binders: &[(Text, Sort)],
+    want: Sort,
+    word: MacroWord,
+    a: &Formula,
+) -> Result<Built, ResolveFault>
+    ensures { Builds result (spec_expect want (spec_macro_sort (spec_macro_of word))
+        (mapped (t.macro (spec_macro_of word)) (time_of (context_of r.now) binders.now (formula_tree a.now)))) }
+{
+    let what = macro_of(word);
+    expect(want, macro_sort(what))?;
+    let at = time(r, binders, a)?;
+    Ok(measured(Term::Macro(what, at)))
+}
