@@ -1,0 +1,9 @@
+pub mod Noted
+pub mod Words
+pub mod Candidates
+pub mod TakenNames
+pub mod Supplied
+pub mod Rows
+pub mod Behind
+pub mod Items
+pub mod Blocks

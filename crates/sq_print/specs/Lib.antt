@@ -1,0 +1,10 @@
+pub mod Forms
+pub mod Names
+pub mod Printed
+pub mod Written
+pub mod Spellings
+pub mod Taken
+pub mod Scopes
+pub mod Supplies
+pub mod GoalTexts
+pub mod WrittenGoals
