@@ -1,0 +1,4 @@
+pub mod Trees
+pub mod Reads
+pub mod Readable
+pub mod Calls
