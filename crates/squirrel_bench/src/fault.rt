@@ -1,5 +1,7 @@
 // Why a run stops.
 use sq_base::NoMemory;
+use sq_resolve::ResolveFault;
+use sq_sym::SymFault;
 use sq_term::SizeFault;
 use std::alloc::{AllocError, AllocFailed};
 
@@ -56,6 +58,38 @@ impl From<SizeFault> for Fault {
         match fault {
             SizeFault::TooLarge => Fault::Limit,
             SizeFault::NoMemory => Fault::NoMemory,
+        }
+    }
+}
+
+impl From<SymFault> for Fault {
+    ghost use Rattle.std.specs.Prelude.{◌≡◌};
+    ghost use Rattle.squirrel_bench.specs.Faults.{fault_of_table};
+
+    ghost from_gives = { λ fault e. e ≡ fault_of_table fault };
+
+    fn from(fault: SymFault) -> Self {
+        match fault {
+            SymFault::Twice => Fault::Usage,
+            SymFault::NoMemory => Fault::NoMemory,
+        }
+    }
+}
+
+impl From<ResolveFault> for Fault {
+    ghost use Rattle.std.specs.Prelude.{◌≡◌};
+    ghost use Rattle.squirrel_bench.specs.Faults.{fault_of_formula};
+
+    ghost from_gives = { λ fault e. e ≡ fault_of_formula fault };
+
+    fn from(fault: ResolveFault) -> Self {
+        match fault {
+            ResolveFault::TooLarge => Fault::Limit,
+            ResolveFault::NoMemory => Fault::NoMemory,
+            ResolveFault::Unknown(_)
+            | ResolveFault::Arity(_, _, _)
+            | ResolveFault::SortClash(_, _)
+            | ResolveFault::MessageQuantifier => Fault::Usage,
         }
     }
 }

@@ -4,6 +4,7 @@
 
 mod fault;
 mod reading;
+mod resolution;
 mod substitution;
 
 use fault::Fault;
@@ -38,6 +39,7 @@ fn turned(alloc: Global, words: &[String]) -> Result<u32, Fault> {
         "substitution" => substitution::turned(alloc, word.as_str(), turns),
         "lexing" => reading::lexed(alloc, word.as_str(), turns),
         "parsing" => reading::parsed(alloc, word.as_str(), turns),
+        "resolution" => resolution::turned(alloc, word.as_str(), turns),
         _ => Err(Fault::Usage),
     }
 }

@@ -1,0 +1,30 @@
+#!/usr/bin/env bash
+# Declares 2,500 and 20,000 names and resolves an equation over each, and prints the time of both and
+# their ratio, which fails at 12 or more. The time of a run that does nothing is taken off. Each time is
+# the processor's for ten runs, the least of five, in milliseconds for one run.
+set -eu
+program=$("$(dirname "$0")/built.sh")
+few=${1:-2500}
+many=${2:-20000}
+TIMEFORMAT='%U %S'
+
+ten() { # WORD COUNT
+  for _ in 1 2 3 4 5 6 7 8 9 10; do
+    "$program" resolution "$1" "$2" > /dev/null
+  done
+}
+
+least() { # WORD COUNT
+  for _ in 1 2 3 4 5; do
+    { time ten "$1" "$2"; } 2>&1
+  done | awk '{ spent = $1 + $2; if (NR == 1 || spent < best) best = spent } END { print best * 100 }'
+}
+
+idle=$(least nothing "$few")
+short=$(least names "$few")
+long=$(least names "$many")
+awk -v i="$idle" -v s="$short" -v l="$long" -v f="$few" -v m="$many" 'BEGIN {
+  ratio = (s > i) ? (l - i) / (s - i) : 0
+  printf "%d declarations: %.2f ms\n%d declarations: %.2f ms\nratio: %.2f\n", f, s - i, m, l - i, ratio
+  exit !(ratio > 0 && ratio < 12)
+}'
