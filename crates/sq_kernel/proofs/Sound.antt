@@ -71,7 +71,7 @@ module _ (env : EnvTree) (kept : is_environment env ≡ true) (g : ℕ) where
       each-append ps rest WellFormed (premises_well_formed x s env g ps (environment_parts env kept).0 e (w s here)) (λ y i. w y (there i))
 
   -- each sequent of a well-formed stack that steps close holds
-  pub stack_holds : (m : Model) → IsTraceModel (system_of env g) m → EarlierHoldAt env g m
+  stack_holds : (m : Model) → IsTraceModel (system_of env g) m → EarlierHoldAt env g m
       → (steps : List Step) (stack : List SequentTree) → Each WellFormed stack → Closes env g steps stack → Each (HoldsAt (theory_of env g m)) stack
   stack_holds m trace earlier [] [] w c = each_none (HoldsAt (theory_of env g m))
   stack_holds m trace earlier [] (s ∷ rest) w c = absurd (cc)
@@ -82,7 +82,11 @@ module _ (env : EnvTree) (kept : is_environment env ≡ true) (g : ℕ) where
       (logic_sound x s env g c.0 c.1 (w s here) m trace earlier (λ y i. all y (member-append_left c.0 rest y i)))
       (λ y i. all y (member-append_right c.0 rest y i))
 
+  -- a goal that steps close holds at a model where the earlier ones do
+  pub closed_holds : g < length env.stmts → (m : Model) → IsTraceModel (system_of env g) m → EarlierHoldAt env g m → (steps : List Step) → ClosesGoal env g steps
+      → HoldsAt (theory_of env g m) (statement_at env g).start
+  closed_holds l m trace earlier steps c =
+      let start : SequentTree = (statement_at env g).start in stack_holds m trace earlier steps (start ∷ []) (each_single start WellFormed (start_well_formed l)) c start here
+
   pub goal_holds : g < length env.stmts → (steps : List Step) → verdict_of steps env g ≡ Closed → EarlierHold env g → HoldsEverywhere env g
-  goal_holds l steps e earlier m trace =
-      let start : SequentTree = (statement_at env g).start in
-      stack_holds m trace (earlier m trace) steps (start ∷ []) (each_single start WellFormed (start_well_formed l)) (closed_closes env g 0 steps (start ∷ []) e) start here
+  goal_holds l steps e earlier m trace = closed_holds l m trace (earlier m trace) steps (closed_closes env g 0 steps ((statement_at env g).start ∷ []) e)

@@ -3,14 +3,15 @@ use Rattle.std.proofs.Common.{◌≡◌, ◌⊎◌, inl, inr, ◌<◌, ◌+◌, 
 use Rattle.std.proofs.lemmas.Bool.Decides.{nat_tests}
 use Rattle.std.specs.List.{flat_map}
 use Rattle.sq_term.specs.declared.model.Model.{Model}
-use Rattle.sq_term.specs.Lists.{Member, here, Each, ElementAt, count}
+use Rattle.sq_term.specs.Lists.{Member, Each, ElementAt, count}
 use Rattle.sq_term.proofs.Members.{member-map_from, member-element}
-use Rattle.std.proofs.lemmas.List.{append_cancel_left}
+use Rattle.std.proofs.lemmas.List.{append_cancel_left, length-map}
 use Rattle.sq_term.specs.Models.{IsTraceModel}
 use Rattle.sq_term.specs.Syntax.{TermTree}
 use Rattle.sq_system.specs.declared.env.StmtKind.TheVariants as kind
 use Rattle.sq_system.specs.Sequents.{SequentTree}
 use Rattle.sq_system.specs.Environments.{StmtTree, EnvTree}
+use Rattle.sq_system.specs.WellFormed.{is_environment}
 use Rattle.sq_ground.specs.Usable.{no_statement, statement_at, usable_axioms, system_of, is_usable, is_axiom, formula_of}
 use Rattle.sq_ground.specs.Holding.{HoldsAt}
 use Rattle.sq_ground.specs.Rules.{Theory}
@@ -21,7 +22,8 @@ use Rattle.sq_sequent.specs.declared.fault.RuleFault.{RuleFault}
 use Rattle.sq_sequent.specs.declared.fault.RuleFault.TheVariants as rule
 use Rattle.sq_sequent.specs.declared.step.Step.{Step}
 use Rattle.sq_kernel.specs.Closing.{calculus, Closes, ClosesGoal}
-use Rattle.sq_kernel.proofs.Sound.{stack_holds}
+use Rattle.sq_kernel.proofs.Sound.{closed_holds}
+use Rattle.squirrel.proofs.Declared.{form_is_environment}
 use Rattle.squirrel.specs.declared.script.Place.{Place}
 use Rattle.squirrel.specs.declared.script.Task.{Task}
 use Rattle.squirrel.specs.declared.script.Lemma.{Lemma}
@@ -129,7 +131,7 @@ module _ (s : Script) where
   below_first true b e = refl
   below_first false b e = absurd (cc (e))
 
-  module _ (free : lemmas_trouble env 0 s.lemmas ≡ None) where
+  module _ (free : lemmas_trouble env 0 s.lemmas ≡ None) (kept : is_environment env ≡ true) where
     -- the steps of a goal
     goal_closes : (g : ℕ) (l : Lemma) → slice_get s.lemmas g ≡ Some l → (steps : List Step) × ClosesGoal env g steps
     goal_closes g l is = let now : 0 + g ≡ g = omega arith in closing env g l.tasks l.qed (first_goals (statement_at env g).start) (ap (λ (j : ℕ). lemma_trouble env j l) (sym now) ∙ each_free env 0 s.lemmas g l free is)
@@ -144,12 +146,12 @@ module _ (s : Script) where
     holds_below (suc bound) g lt l is m trace =
         let c = goal_closes g l is in
         let within = slice_get_within s.lemmas g l is in
-        stack_holds env g m trace (λ k usable plain.
+        closed_holds env kept g (subst (λ n. g < n) (sym (length-map s.lemmas statement_of)) within) m trace (λ k usable plain.
         let before : k < g = let t = below_first (nat_lt k g) _ usable in grind (arith, nat_tests) in
         let other = lemma_at s.lemmas k (omega (arith, before, within)) in
         subst (λ (th : Theory). HoldsAt th (statement_at env k).start) (same_theory g k m)
         (holds_below bound k (omega (arith, before)) other.0 other.1 m (subst (λ (actions : List ActionTree). IsTraceModel actions m) (no_system g ∙ sym (no_system k)) trace)))
-        c.0 ((statement_at env g).start ∷ []) c.1 (statement_at env g).start here
+        c.0 c.1
 
     pub goal_is_proved : (g : ℕ) (l : Lemma) → slice_get s.lemmas g ≡ Some l → IsProved env g
     goal_is_proved g l is = let c = goal_closes g l is in record { steps = c.0; closed = c.1; holds = holds_below (suc g) g (omega arith) l is }
@@ -180,7 +182,7 @@ all_proved : (file : List ℕ) (s : Script) → form_of file ≡ Some s → trou
 unfolding trouble_of
 all_proved file s form free name m =
     let n = named_in s.lemmas name m in
-    record { script = s; form = form; number = n.number; lemma = n.lemma; at = n.at; named = n.named; proved = goal_is_proved s free n.number n.lemma n.at }
+    record { script = s; form = form; number = n.number; lemma = n.lemma; at = n.at; named = n.named; proved = goal_is_proved s free (form_is_environment file s form) n.number n.lemma n.at }
 
 run_lists : (file text : List ℕ) (s : Script) → form_of file ≡ Some s → (t : Option Trouble) → trouble_of s ≡ t → answer_of_run file s t ≡ record { status = Done; text = text } → ListsProved file text
 run_lists file text s form (Some t) is e = let x : Refused ≡ Done = ap (λ (a : Answer). a.status) e in absurd (cc (x))
