@@ -68,7 +68,7 @@ module _ (env : EnvTree) (kept : is_environment env ≡ true) (g : ℕ) where
   -- the premises and the further sequents
   replaced_well_formed : (x : Step) (s : SequentTree) (rest ps : List SequentTree) → calculus x s env g ≡ Ok ps → Each WellFormed (s ∷ rest) → Each WellFormed (ps ++ rest)
   replaced_well_formed x s rest ps e w =
-      each-append ps rest WellFormed (premises_well_formed x s env g ps (environment_parts env kept).0 e (w s here)) (λ y i. w y (there i))
+      each-append ps rest WellFormed (premises_well_formed x s env g ps kept e (w s here)) (λ y i. w y (there i))
 
   -- each sequent of a well-formed stack that steps close holds
   stack_holds : (m : Model) → IsTraceModel (system_of env g) m → EarlierHoldAt env g m
@@ -79,7 +79,7 @@ module _ (env : EnvTree) (kept : is_environment env ≡ true) (g : ℕ) where
   stack_holds m trace earlier (x ∷ steps) (s ∷ rest) w c =
       let all : Each (HoldsAt (theory_of env g m)) (c.0 ++ rest) = stack_holds m trace earlier steps (c.0 ++ rest) (replaced_well_formed x s rest c.0 c.1 w) c.2 in
       each_cons s rest (HoldsAt (theory_of env g m))
-      (logic_sound x s env g c.0 c.1 (w s here) m trace earlier (λ y i. all y (member-append_left c.0 rest y i)))
+      (logic_sound x s env g c.0 kept c.1 (w s here) m trace earlier (λ y i. all y (member-append_left c.0 rest y i)))
       (λ y i. all y (member-append_right c.0 rest y i))
 
   -- a goal that steps close holds at a model where the earlier ones do

@@ -1,5 +1,7 @@
 // The rows of equations, and the one that leaves what a sequent says of the trace.
 ghost use Rattle.sq_base.specs.Gives.{Gives};
+ghost use Rattle.sq_term.specs.Symbols as kind;
+ghost use Rattle.sq_term.specs.Symbols.{function_number};
 ghost use Rattle.sq_system.specs.Sequents.{sequent_tree};
 ghost use Rattle.sq_sequent.specs.Views.{local_goal_of as the_local_goal, binary_in as the_two};
 ghost use Rattle.sq_sequent.specs.Logic as row;
@@ -8,8 +10,8 @@ ghost use Rattle.sq_sequent.specs.Logic.{sequent_trees, judged};
 use crate::propositional::closing;
 use sq_base::Seq;
 use sq_sequent::{
-    RuleFault, Sequent, about_the_trace, asking, binary_in, constant, equation, is_reflexive,
-    local_goal_of, one_premise, pure_or_false,
+    RuleFault, Sequent, about_the_trace, alike_arguments, asking, binary_in, constant, equation,
+    is_reflexive, local_goal_of, one_premise, pure_or_false,
 };
 use sq_term::Builtin;
 use std::alloc::Global;
@@ -28,13 +30,24 @@ pub fn refl(alloc: Global, s: &Sequent) -> Result<Seq<Sequent>, RuleFault>
 /// Of an equation of messages: the other way round.
 pub fn sym(alloc: Global, s: &Sequent) -> Result<Seq<Sequent>, RuleFault>
     ensures { Gives RuleFault.NoMemory sequent_trees result
-        (judged (row.sym_row (sequent_tree s.now) (the_two 7 (the_local_goal (sequent_tree s.now))))) }
+        (judged (row.sym_row (sequent_tree s.now) (the_two (function_number kind.equality) (the_local_goal (sequent_tree s.now))))) }
 {
     match binary_in(Builtin::Eq.number(), local_goal_of(s)) {
         Some((u, v)) => {
             let exchanged = equation(alloc, v, u)?;
             one_premise(alloc, asking(alloc, s, exchanged)?)
         }
+        None => Err(RuleFault::Shape),
+    }
+}
+
+/// Of an equation of two applications of one function: each two arguments are alike.
+pub fn arg(alloc: Global, s: &Sequent) -> Result<Seq<Sequent>, RuleFault>
+    ensures { Gives RuleFault.NoMemory sequent_trees result
+        (judged (row.arg_row (sequent_tree s.now) (the_two (function_number kind.equality) (the_local_goal (sequent_tree s.now))))) }
+{
+    match binary_in(Builtin::Eq.number(), local_goal_of(s)) {
+        Some((left, right)) => alike_arguments(alloc, s, left, right),
         None => Err(RuleFault::Shape),
     }
 }

@@ -9,10 +9,14 @@ ghost use Rattle.sq_sequent.specs.Logic.{sequent_trees, logic_premises};
 ghost use Rattle.sq_sequent.specs.Soundness.{PremisesSuffice, PremisesAreWellFormed};
 
 mod equations;
+mod facts;
 mod propositional;
 mod quantifiers;
+mod rewriting;
+mod sides;
 #[cfg(test)]
 mod tests;
+mod uses;
 mod written;
 
 use sq_base::Seq;
@@ -60,18 +64,25 @@ fn row(
         Step::Andi => propositional::andi(alloc, s),
         Step::Orl => propositional::orl(alloc, s),
         Step::Orr => propositional::orr(alloc, s),
+        Step::Exi(witness) => quantifiers::exi(alloc, s, env, goal, witness),
         Step::Ande(h) => propositional::ande(alloc, s, *h),
         Step::Ore(h) => propositional::ore(alloc, s, *h),
         Step::Impe(h) => propositional::impe(alloc, s, *h),
         Step::Note(h) => propositional::note(alloc, s, *h),
+        Step::Alle(h, witness) => quantifiers::alle(alloc, s, env, goal, *h, witness),
         Step::Exe(h) => quantifiers::exe(alloc, s, *h),
         Step::Cut(formula) => written::cut(alloc, s, env, goal, formula),
         Step::Em(formula) => written::em(alloc, s, env, goal, formula),
         Step::Drop(h) => propositional::drop_hyp(alloc, s, *h),
+        Step::UseStmt(k, args) => uses::use_statement(alloc, s, env, goal, *k, args.as_slice()),
+        Step::Proj => sides::proj(alloc, s),
         Step::Trace => equations::trace(alloc, s),
         Step::Refl => equations::refl(alloc, s),
         Step::Sym => equations::sym(alloc, s),
         Step::Trans(between) => written::trans(alloc, s, env, goal, between),
+        Step::Arg => equations::arg(alloc, s),
+        Step::Rew(h, dir, target) => rewriting::rew(alloc, s, *h, *dir, *target),
+        Step::Fact(t) => facts::fact(alloc, s, env, goal, t),
         _ => Err(RuleFault::Shape),
     }
 }

@@ -1,5 +1,7 @@
 // The rows of the connectives and of hypotheses.
 ghost use Rattle.sq_base.specs.Gives.{Gives};
+ghost use Rattle.sq_term.specs.Symbols as kind;
+ghost use Rattle.sq_term.specs.Symbols.{function_number};
 ghost use Rattle.sq_system.specs.Sequents.{sequent_tree};
 ghost use Rattle.sq_sequent.specs.Views.{goal_of as the_goal, hyp_of as the_hyp, binary_in as the_two, unary_in as the_one, constant_in as the_constant};
 ghost use Rattle.sq_sequent.specs.Logic as row;
@@ -43,7 +45,7 @@ pub fn hyp(alloc: Global, s: &Sequent, h: u32) -> Result<Seq<Sequent>, RuleFault
 /// The goal is true.
 pub fn truth(alloc: Global, s: &Sequent) -> Result<Seq<Sequent>, RuleFault>
     ensures { Gives RuleFault.NoMemory sequent_trees result
-        (judged (row.closing_row (the_constant 1 (the_goal (sequent_tree s.now))))) }
+        (judged (row.closing_row (the_constant (function_number kind.truth) (the_goal (sequent_tree s.now))))) }
 {
     closing(alloc, constant_in(Builtin::True.number(), goal_of(s)))
 }
@@ -51,7 +53,7 @@ pub fn truth(alloc: Global, s: &Sequent) -> Result<Seq<Sequent>, RuleFault>
 /// The hypothesis is false.
 pub fn absurd(alloc: Global, s: &Sequent, h: u32) -> Result<Seq<Sequent>, RuleFault>
     ensures { Gives RuleFault.NoMemory sequent_trees result
-        (judged (row.closing_row (the_constant 2 (the_hyp (sequent_tree s.now) h)))) }
+        (judged (row.closing_row (the_constant (function_number kind.falsity) (the_hyp (sequent_tree s.now) h)))) }
 {
     closing(alloc, constant_in(Builtin::False.number(), hyp_of(s, h)))
 }
@@ -59,7 +61,7 @@ pub fn absurd(alloc: Global, s: &Sequent, h: u32) -> Result<Seq<Sequent>, RuleFa
 /// Of an implication: its left side becomes a hypothesis.
 pub fn impi(alloc: Global, s: &Sequent) -> Result<Seq<Sequent>, RuleFault>
     ensures { Gives RuleFault.NoMemory sequent_trees result
-        (judged (row.impi_row (sequent_tree s.now) (the_two 6 (the_goal (sequent_tree s.now))))) }
+        (judged (row.impi_row (sequent_tree s.now) (the_two (function_number kind.implication) (the_goal (sequent_tree s.now))))) }
 {
     match binary_in(Builtin::Implies.number(), goal_of(s)) {
         Some((a, b)) => {
@@ -73,7 +75,7 @@ pub fn impi(alloc: Global, s: &Sequent) -> Result<Seq<Sequent>, RuleFault>
 /// Of a negation: what is negated becomes a hypothesis, from which false is to be shown.
 pub fn noti(alloc: Global, s: &Sequent) -> Result<Seq<Sequent>, RuleFault>
     ensures { Gives RuleFault.NoMemory sequent_trees result
-        (judged (row.noti_row (sequent_tree s.now) (the_one 3 (the_goal (sequent_tree s.now))))) }
+        (judged (row.noti_row (sequent_tree s.now) (the_one (function_number kind.negation) (the_goal (sequent_tree s.now))))) }
 {
     match unary_in(Builtin::Not.number(), goal_of(s)) {
         Some(a) => {
@@ -87,7 +89,7 @@ pub fn noti(alloc: Global, s: &Sequent) -> Result<Seq<Sequent>, RuleFault>
 /// Of a conjunction: both parts are to be shown.
 pub fn andi(alloc: Global, s: &Sequent) -> Result<Seq<Sequent>, RuleFault>
     ensures { Gives RuleFault.NoMemory sequent_trees result
-        (judged (row.andi_row (sequent_tree s.now) (the_two 4 (the_goal (sequent_tree s.now))))) }
+        (judged (row.andi_row (sequent_tree s.now) (the_two (function_number kind.conjunction) (the_goal (sequent_tree s.now))))) }
 {
     match binary_in(Builtin::And.number(), goal_of(s)) {
         Some((a, b)) => {
@@ -102,7 +104,7 @@ pub fn andi(alloc: Global, s: &Sequent) -> Result<Seq<Sequent>, RuleFault>
 /// Of a disjunction: its left part is to be shown.
 pub fn orl(alloc: Global, s: &Sequent) -> Result<Seq<Sequent>, RuleFault>
     ensures { Gives RuleFault.NoMemory sequent_trees result
-        (judged (row.orl_row (sequent_tree s.now) (the_two 5 (the_goal (sequent_tree s.now))))) }
+        (judged (row.orl_row (sequent_tree s.now) (the_two (function_number kind.disjunction) (the_goal (sequent_tree s.now))))) }
 {
     match binary_in(Builtin::Or.number(), goal_of(s)) {
         Some((a, _)) => one_premise(alloc, asking_copy(alloc, s, a)?),
@@ -113,7 +115,7 @@ pub fn orl(alloc: Global, s: &Sequent) -> Result<Seq<Sequent>, RuleFault>
 /// Of a disjunction: its right part is to be shown.
 pub fn orr(alloc: Global, s: &Sequent) -> Result<Seq<Sequent>, RuleFault>
     ensures { Gives RuleFault.NoMemory sequent_trees result
-        (judged (row.orr_row (sequent_tree s.now) (the_two 5 (the_goal (sequent_tree s.now))))) }
+        (judged (row.orr_row (sequent_tree s.now) (the_two (function_number kind.disjunction) (the_goal (sequent_tree s.now))))) }
 {
     match binary_in(Builtin::Or.number(), goal_of(s)) {
         Some((_, b)) => one_premise(alloc, asking_copy(alloc, s, b)?),
@@ -124,7 +126,7 @@ pub fn orr(alloc: Global, s: &Sequent) -> Result<Seq<Sequent>, RuleFault>
 /// Both parts of a conjunction become hypotheses.
 pub fn ande(alloc: Global, s: &Sequent, h: u32) -> Result<Seq<Sequent>, RuleFault>
     ensures { Gives RuleFault.NoMemory sequent_trees result
-        (judged (row.ande_row (sequent_tree s.now) (the_two 4 (the_hyp (sequent_tree s.now) h)))) }
+        (judged (row.ande_row (sequent_tree s.now) (the_two (function_number kind.conjunction) (the_hyp (sequent_tree s.now) h)))) }
 {
     match binary_in(Builtin::And.number(), hyp_of(s, h)) {
         Some((a, b)) => {
@@ -138,7 +140,7 @@ pub fn ande(alloc: Global, s: &Sequent, h: u32) -> Result<Seq<Sequent>, RuleFaul
 /// The two cases of a disjunction.
 pub fn ore(alloc: Global, s: &Sequent, h: u32) -> Result<Seq<Sequent>, RuleFault>
     ensures { Gives RuleFault.NoMemory sequent_trees result
-        (judged (row.ore_row (sequent_tree s.now) (the_two 5 (the_hyp (sequent_tree s.now) h)))) }
+        (judged (row.ore_row (sequent_tree s.now) (the_two (function_number kind.disjunction) (the_hyp (sequent_tree s.now) h)))) }
 {
     match binary_in(Builtin::Or.number(), hyp_of(s, h)) {
         Some((a, b)) => {
@@ -153,7 +155,7 @@ pub fn ore(alloc: Global, s: &Sequent, h: u32) -> Result<Seq<Sequent>, RuleFault
 /// The left side of an implication is to be shown, and its right side becomes a hypothesis.
 pub fn impe(alloc: Global, s: &Sequent, h: u32) -> Result<Seq<Sequent>, RuleFault>
     ensures { Gives RuleFault.NoMemory sequent_trees result
-        (judged (row.impe_row (sequent_tree s.now) (the_two 6 (the_hyp (sequent_tree s.now) h)))) }
+        (judged (row.impe_row (sequent_tree s.now) (the_two (function_number kind.implication) (the_hyp (sequent_tree s.now) h)))) }
 {
     match binary_in(Builtin::Implies.number(), hyp_of(s, h)) {
         Some((a, b)) => {
@@ -168,7 +170,7 @@ pub fn impe(alloc: Global, s: &Sequent, h: u32) -> Result<Seq<Sequent>, RuleFaul
 /// What a negation denies is to be shown.
 pub fn note(alloc: Global, s: &Sequent, h: u32) -> Result<Seq<Sequent>, RuleFault>
     ensures { Gives RuleFault.NoMemory sequent_trees result
-        (judged (row.note_row (sequent_tree s.now) (the_one 3 (the_hyp (sequent_tree s.now) h)))) }
+        (judged (row.note_row (sequent_tree s.now) (the_one (function_number kind.negation) (the_hyp (sequent_tree s.now) h)))) }
 {
     match unary_in(Builtin::Not.number(), hyp_of(s, h)) {
         Some(a) => one_premise(alloc, asking_copy(alloc, s, a)?),

@@ -1,11 +1,18 @@
 use crate::premises;
-use sq_base::{NoMemory, Seq, Sort};
-use sq_sequent::{
-    Env, Place, Sequent, Step, TermArg, binary, constant, goal_of, hyps_of, is_constant, unary,
-};
+use sq_base::{NoMemory, Seq};
+use sq_sequent::{Env, Sequent, Step, binary, constant, goal_of, hyps_of, is_constant, unary};
 use sq_term::{Builtin, Side, Term};
-use sqlite_items::{Boxed, Items};
+use sqlite_items::Items;
 use std::alloc::Global;
+
+mod equations;
+mod facts;
+mod limits;
+mod quantifiers;
+mod rewriting;
+mod sides;
+mod uses;
+mod written;
 
 const B: u32 = 14;
 
@@ -326,197 +333,5 @@ fn noti_asks_false(rt: HostRuntime) {
     assert!(rt;
         goal_of_noti(rt.alloc()) == Ok(true),
         "the premise of noti asks false"
-    );
-}
-
-fn not_true(alloc: Global) -> Result<Term, NoMemory> {
-    unary(alloc, Builtin::Not, constant(alloc, Builtin::True))
-}
-
-// `not(true)` is to be shown, without hypotheses.
-fn of_not_true(alloc: Global, side: Side) -> Result<Sequent, NoMemory> {
-    let goal = not_true(alloc)?;
-    Ok(Sequent::Local {
-        side,
-        vars: Seq::new(alloc),
-        hyps: Seq::new(alloc),
-        goal,
-    })
-}
-
-fn cuts_by(alloc: Global, side: Side, step: Step) -> Result<bool, NoMemory> {
-    let s = of_not_true(alloc, side)?;
-    of_sequent(alloc, &s, &step, &[0, 1])
-}
-
-// Whether a cut of this argument has its two premises, where `not(true)` is to be shown.
-fn cuts(alloc: Global, side: Side, formula: TermArg) -> Result<bool, NoMemory> {
-    cuts_by(alloc, side, Step::Cut(formula))
-}
-
-fn cuts_at(alloc: Global, place: Place, node: u32) -> Result<bool, NoMemory> {
-    cuts(alloc, Side::Both, TermArg::At(place, node))
-}
-
-#[test]
-fn a_cut_is_of_a_formula_at_a_node(rt: HostRuntime) {
-    let alloc = rt.alloc();
-    assert!(rt; cuts_at(alloc, Place::Goal, 0) == Ok(true), "the goal");
-    assert!(rt; cuts_at(alloc, Place::Goal, 1) == Ok(true), "its part");
-    assert!(rt;
-        cuts_at(alloc, Place::Goal, 2) == Ok(false),
-        "past its nodes"
-    );
-    assert!(rt;
-        cuts_at(alloc, Place::Hyp(0), 0) == Ok(false),
-        "no hypothesis"
-    );
-    assert!(rt; cuts_at(alloc, Place::Left(0), 0) == Ok(false), "no item");
-}
-
-fn written(alloc: Global, function: Builtin, side: Side) -> Result<bool, NoMemory> {
-    cuts(alloc, side, TermArg::Written(constant(alloc, function)))
-}
-
-fn cuts_unknown(alloc: Global) -> Result<bool, NoMemory> {
-    cuts(alloc, Side::Both, TermArg::Written(letter(alloc, B)))
-}
-
-// `diff(true, true)` on this side.
-fn cuts_diff(alloc: Global, side: Side) -> Result<bool, NoMemory> {
-    let left = Boxed::new(alloc, constant(alloc, Builtin::True)).or(Err(NoMemory))?;
-    let right = Boxed::new(alloc, constant(alloc, Builtin::True)).or(Err(NoMemory))?;
-    cuts(alloc, side, TermArg::Written(Term::Diff(left, right)))
-}
-
-#[test]
-fn a_cut_is_of_what_may_stand(rt: HostRuntime) {
-    let alloc = rt.alloc();
-    assert!(rt;
-        written(alloc, Builtin::False, Side::Both) == Ok(true),
-        "a formula"
-    );
-    assert!(rt;
-        written(alloc, Builtin::Empty, Side::Both) == Ok(false),
-        "a message"
-    );
-    assert!(rt; cuts_unknown(alloc) == Ok(false), "an unknown function");
-    assert!(rt;
-        cuts_diff(alloc, Side::Both) == Ok(true),
-        "diff on both sides"
-    );
-    assert!(rt;
-        cuts_diff(alloc, Side::Left) == Ok(false),
-        "diff on one side"
-    );
-}
-
-fn cases_of(alloc: Global, function: Builtin) -> Result<bool, NoMemory> {
-    let step = Step::Em(TermArg::Written(constant(alloc, function)));
-    of_letter(alloc, step, &[7, 7])
-}
-
-fn goes_by(alloc: Global, goal: Builtin, step: Step) -> Result<bool, NoMemory> {
-    let s = goal_of_two(alloc, goal)?;
-    of_sequent(alloc, &s, &step, &[6, 6])
-}
-
-// Whether this constant may stand between b and c under this function.
-fn is_between(alloc: Global, goal: Builtin, between: Builtin) -> Result<bool, NoMemory> {
-    let between = TermArg::Written(constant(alloc, between));
-    goes_by(alloc, goal, Step::Trans(between))
-}
-
-#[test]
-fn cases_and_steps_between(rt: HostRuntime) {
-    let alloc = rt.alloc();
-    assert!(rt; cases_of(alloc, Builtin::True) == Ok(true), "em");
-    assert!(rt;
-        cases_of(alloc, Builtin::Empty) == Ok(false),
-        "em of a message"
-    );
-    assert!(rt;
-        is_between(alloc, Builtin::Eq, Builtin::Empty) == Ok(true),
-        "trans"
-    );
-    assert!(rt;
-        is_between(alloc, Builtin::Eq, Builtin::True) == Ok(false),
-        "trans by a formula"
-    );
-    assert!(rt;
-        is_between(alloc, Builtin::Or, Builtin::Empty) == Ok(false),
-        "trans of a disjunction"
-    );
-}
-
-fn quantified(alloc: Global, universal: bool) -> Result<Term, NoMemory> {
-    let body = Boxed::new(alloc, letter(alloc, B)).or(Err(NoMemory))?;
-    if universal {
-        Ok(Term::Forall(Sort::Index, body))
-    } else {
-        Ok(Term::Exists(Sort::Index, body))
-    }
-}
-
-// The sequent over an index with the hypothesis `exists i, b` and this goal.
-fn over_one(alloc: Global, goal: Term) -> Result<Sequent, NoMemory> {
-    let mut vars = Seq::new(alloc);
-    vars.push(Sort::Index)?;
-    let mut hyps = Seq::new(alloc);
-    hyps.push(quantified(alloc, false)?)?;
-    Ok(Sequent::Local {
-        side: Side::Both,
-        vars,
-        hyps,
-        goal,
-    })
-}
-
-// Whether the step has one premise of it, over so many variables and with so many hypotheses.
-fn leaves(
-    alloc: Global,
-    universal: bool,
-    step: &Step,
-    vars: usize,
-    hyps: usize,
-) -> Result<bool, NoMemory> {
-    let goal = quantified(alloc, universal)?;
-    let s = over_one(alloc, goal)?;
-    leaves_of(alloc, &s, step, vars, hyps)
-}
-
-fn leaves_of(
-    alloc: Global,
-    s: &Sequent,
-    step: &Step,
-    vars: usize,
-    hyps: usize,
-) -> Result<bool, NoMemory> {
-    let env = Env::new(alloc)?;
-    match premises(alloc, step, s, &env, 0) {
-        Ok(premises) => Ok(is_over(premises.as_slice(), vars, hyps)),
-        Err(_) => Ok(false),
-    }
-}
-
-fn is_over(premises: &[Sequent], count: usize, hyps: usize) -> bool {
-    match premises {
-        [Sequent::Local { vars, .. }] => vars.len() == count && have(premises, &[hyps]),
-        _ => false,
-    }
-}
-
-#[test]
-fn quantifiers_are_opened(rt: HostRuntime) {
-    let alloc = rt.alloc();
-    assert!(rt; leaves(alloc, true, &Step::Alli, 2, 1) == Ok(true), "alli");
-    assert!(rt;
-        leaves(alloc, false, &Step::Alli, 2, 1) == Ok(false),
-        "alli of exists"
-    );
-    assert!(rt; leaves(alloc, true, &Step::Exe(0), 2, 2) == Ok(true), "exe");
-    assert!(rt;
-        leaves(alloc, true, &Step::Exe(1), 2, 2) == Ok(false),
-        "exe past the hypotheses"
     );
 }

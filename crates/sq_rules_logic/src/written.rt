@@ -3,6 +3,8 @@ ghost use Rattle.std.specs.Prelude.{◌≡◌, IfOk};
 ghost use Rattle.sq_base.specs.Gives.{Gives};
 ghost use Rattle.sq_base.specs.declared.sort.Sort.TheVariants as sort;
 ghost use Rattle.sq_system.specs.Environments.{env_tree};
+ghost use Rattle.sq_term.specs.Symbols as kind;
+ghost use Rattle.sq_term.specs.Symbols.{function_number};
 ghost use Rattle.sq_system.specs.Sequents.{sequent_tree};
 ghost use Rattle.sq_sequent.specs.Views.{local_goal_of as the_local_goal, binary_in as the_two};
 ghost use Rattle.sq_sequent.specs.Standing.{term_in as the_term};
@@ -86,7 +88,7 @@ pub fn trans(
     between: &TermArg,
 ) -> Result<Seq<Sequent>, RuleFault>
     ensures { Gives RuleFault.NoMemory sequent_trees result
-        (judged (row.trans_row (sequent_tree s.now) (the_two 7 (the_local_goal (sequent_tree s.now)))
+        (judged (row.trans_row (sequent_tree s.now) (the_two (function_number kind.equality) (the_local_goal (sequent_tree s.now)))
         (the_term (env_tree env.now) goal (sequent_tree s.now) sort.Message between.now))) }
 {
     match binary_in(Builtin::Eq.number(), local_goal_of(s)) {

@@ -12,7 +12,7 @@ use Rattle.sq_term.proofs.SameTrees.{is_same_sort-decides}
 use Rattle.sq_system.specs.Functions.{plain_function, builtin_functions, begins_with, same_function, are_functions}
 use Rattle.sq_system.specs.Typing.{Signature, result_sort, applies, has_sort}
 use Rattle.sq_system.specs.WellFormed.{is_formula}
-use Rattle.sq_sequent.specs.Premises.{falsity, negation, equality}
+use Rattle.sq_sequent.specs.Premises.{falsity, negation, conjunction, implication, equality}
 
 builtin-at : (bs fs : List FunDecl) (k : ℕ) (b : FunDecl) → begins_with bs fs ≡ true → slice_get bs k ≡ Some b → (d : FunDecl) × (slice_get fs k ≡ Some d) × (same_function b d ≡ true)
 builtin-at [] fs k b h e = absurd (cc)
@@ -50,6 +50,20 @@ negation-formula g h a e =
     let p = applied g 3 1 Boolean h refl in
     and_both (is_same_sort (result_sort g (slice_get g.funs 3)) Boolean) _ p.0
     (and_both (applies g (slice_get g.funs 3) 0 1) _ p.1 (and_both (has_sort g [] Boolean a) true e refl))
+
+pub implication-formula : (g : Signature) → are_functions g.funs ≡ true → (a b : TermTree) → is_formula g a ≡ true → is_formula g b ≡ true → is_formula g (implication a b) ≡ true
+implication-formula g h a b i j =
+    let p = applied g 6 2 Boolean h refl in
+    and_both (is_same_sort (result_sort g (slice_get g.funs 6)) Boolean) _ p.0
+    (and_both (applies g (slice_get g.funs 6) 0 2) _ p.1
+    (and_both (has_sort g [] Boolean a) _ i (and_both (has_sort g [] Boolean b) true j refl)))
+
+pub conjunction-formula : (g : Signature) → are_functions g.funs ≡ true → (a b : TermTree) → is_formula g a ≡ true → is_formula g b ≡ true → is_formula g (conjunction a b) ≡ true
+conjunction-formula g h a b i j =
+    let p = applied g 4 2 Boolean h refl in
+    and_both (is_same_sort (result_sort g (slice_get g.funs 4)) Boolean) _ p.0
+    (and_both (applies g (slice_get g.funs 4) 0 2) _ p.1
+    (and_both (has_sort g [] Boolean a) _ i (and_both (has_sort g [] Boolean b) true j refl)))
 
 -- an equation is one of two messages
 pub equality-formula : (g : Signature) → are_functions g.funs ≡ true → (u v : TermTree) → has_sort g [] Message u ≡ true → has_sort g [] Message v ≡ true

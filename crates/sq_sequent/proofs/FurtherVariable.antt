@@ -31,7 +31,7 @@ use Rattle.sq_sequent.specs.Premises.{variable}
 
 -- ---- the value of the new variable
 
-numbers : (w : Times) → Each (λ v. Number (number_of v) ≡ v) (domain w Index)
+pub numbers : (w : Times) → Each (λ v. Number (number_of v) ≡ v) (domain w Index)
 numbers w = each-map Number (count 0 w.indices) (λ v. Number (number_of v) ≡ v) (λ n i. refl)
 
 moments : (w : Times) → Each (λ v. Moment (time_of v) ≡ v) (domain w Timestamp)

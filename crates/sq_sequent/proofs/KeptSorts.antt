@@ -1,5 +1,5 @@
 -- A walk that puts in the place of each variable what has its sort keeps the sorts of terms.
-use Rattle.std.proofs.Common.{◌≡◌, ℕ, zero, suc, ◌+◌, refl, sym, ap, ◌∙◌, subst, List, [], ◌∷◌, ◌++◌, map, length, Option, Some, None, Bool, true, false, ◌&&◌, nat_lt, arith}
+use Rattle.std.proofs.Common.{◌≡◌, ℕ, zero, suc, ◌+◌, refl, ap, ◌∙◌, subst, List, [], ◌∷◌, ◌++◌, map, length, Option, Some, None, Bool, true, false, ◌&&◌, nat_lt, arith}
 use Rattle.std.specs.Prelude.{slice_get, replicate}
 use Rattle.std.proofs.lemmas.List.{length-map}
 use Rattle.sq_base.specs.declared.sort.Sort.{Sort}
@@ -19,7 +19,7 @@ with_variables g n vars = record { names = g.names; funs = g.funs; actions = g.a
 pub both_kept : (a b c d : Bool) → (a ≡ true → c ≡ true) → (b ≡ true → d ≡ true) → (a && b) ≡ true → (c && d) ≡ true
 both_kept a b c d f k e = let p = and_split a b e in and_both c d (f p.0) (k p.1)
 
-application_kept : (g h : Signature) (s : Sort) (i n i' n' : ℕ) (o : Option FunDecl) (a b c d : Bool) → i' ≡ i → n' ≡ n → (a ≡ true → c ≡ true) → (b ≡ true → d ≡ true)
+pub application_kept : (g h : Signature) (s : Sort) (i n i' n' : ℕ) (o : Option FunDecl) (a b c d : Bool) → i' ≡ i → n' ≡ n → (a ≡ true → c ≡ true) → (b ≡ true → d ≡ true)
     → (is_same_sort (result_sort g o) s && (applies g o i n && (a && b))) ≡ true → (is_same_sort (result_sort h o) s && (applies h o i' n' && (c && d))) ≡ true
 application_kept g h s i n i' n' (Some x) a b c d ei en f k e =
     let p = and_split (is_same_sort x.result s) _ e in

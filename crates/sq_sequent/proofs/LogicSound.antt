@@ -18,8 +18,10 @@ use Rattle.sq_term.specs.Systems.{ActionTree}
 use Rattle.sq_term.specs.GroundFormulas.{truth_of}
 use Rattle.sq_term.specs.Translate.{Assignment, translate, ts_value, idx_value, is_same_time}
 use Rattle.sq_system.specs.Environments.{StmtTree, EnvTree}
+use Rattle.sq_system.specs.Functions.{are_functions}
 use Rattle.sq_system.specs.Typing.{Signature, is_binder_sort}
-use Rattle.sq_system.specs.WellFormed.{signature_of, is_sorted, vars_of, is_sequent_of, is_well_formed_for}
+use Rattle.sq_system.specs.WellFormed.{signature_of, is_sorted, vars_of, is_sequent_of, is_well_formed_for, is_environment}
+use Rattle.sq_system.proofs.EnvLaws.{environment_parts}
 use Rattle.sq_system.specs.Sequents.{SequentTree, trace, local, equiv}
 use Rattle.sq_ground.specs.Truth.{IsTrueAt}
 use Rattle.sq_ground.specs.Rules.{Theory, world_at}
@@ -29,6 +31,7 @@ use Rattle.sq_ground.proofs.Propositional.{if_from, if_to, not_from, not_to, and
 use Rattle.sq_ground.proofs.Propositional as ground_rule
 use Rattle.sq_sequent.specs.declared.step.Step.{Step}
 use Rattle.sq_sequent.specs.declared.step.Step.TheVariants as step
+use Rattle.sq_sequent.specs.declared.step.TermArg.{TermArg}
 use Rattle.sq_sequent.specs.declared.fault.RuleFault.TheVariants.{TooLarge}
 use Rattle.sq_sequent.specs.Standing.{term_in}
 use Rattle.sq_system.specs.Sizes.{fits, all_fit}
@@ -36,12 +39,20 @@ use Rattle.sq_sequent.specs.Views.{Two, no_two, two, Equation, no_equation, of_m
 use Rattle.sq_sequent.specs.Premises.{falsity, equality, asking, assuming, with_hyps, without, pure_ones, pure_or_false}
 use Rattle.sq_sequent.specs.Logic.{closing_row, hyp_row, impi_row, noti_row, andi_row, orl_row, orr_row, ande_row, ore_row, impe_row, note_row, drop_row, trace_row, is_reflexive, refl_row, sym_row, logic_row, within_limits, judged, logic_premises}
 use Rattle.sq_sequent.specs.Soundness.{PremisesSuffice}
+use Rattle.sq_sequent.specs.Uses.{use_row}
 use Rattle.sq_sequent.proofs.Inversion.{binary_tree, unary_tree, binary_in_is, unary_in_is, constant_in_is, equation_is_of_messages, equation_is_of_times, equation_is_of_indices, get_member, member-without, member-pure}
 use Rattle.sq_sequent.proofs.Purity.{pure_alone}
 use Rattle.sq_sequent.proofs.EqualityRules as equals
+use Rattle.sq_sequent.proofs.ProjSound.{proj_row_sound}
 use Rattle.sq_sequent.proofs.WrittenSound.{cut_row_sound, em_row_sound, trans_row_sound}
-use Rattle.sq_sequent.proofs.Rows.{of_same_variables}
+use Rattle.sq_sequent.proofs.Rows.{of_same_variables, of_any_sorts, of_no_statement}
+use Rattle.sq_sequent.proofs.UseSound.{use_sound}
+use Rattle.sq_sequent.proofs.ArgumentsSound.{arg_sound}
+use Rattle.sq_sequent.proofs.FactSound.{fact_sound}
+use Rattle.sq_sequent.proofs.RewriteSound.{rew_sound}
 use Rattle.sq_sequent.proofs.QuantifierSound.{alli_sound, exe_sound}
+use Rattle.sq_sequent.proofs.Witness.{IsPlaced, placed_times}
+use Rattle.sq_sequent.proofs.WitnessSound.{exi_sound, alle_sound}
 use Rattle.sq_sequent.proofs.Holding.{first_of, second_of, Keeps, no_row, AllTrueIn, TrueIn, assume_both_sound, absurd_sound, cut_sound, contrary_sound, cases_sound, goal_sound, asked_sound, both_asked_sound, intro_sound, hyp_true}
 
 same_time : (t : Option ℕ) → is_same_time t t ≡ true
@@ -221,52 +232,60 @@ module _ (th : Theory) where
   sym_sound (trace vars H g) (two u v) q = let y : None ≡ Some (binary_tree 7 u v) = binary_in_is 7 None u v q in absurd (cc)
   sym_sound (equiv vars H known items) (two u v) q = let y : None ≡ Some (binary_tree 7 u v) = binary_in_is 7 None u v q in absurd (cc)
 
-  -- where each premise of a step that keeps the variables holds, the sequent does
-  pub logic_row_sound : (x : Step) (s : SequentTree) (env : EnvTree) (goal : ℕ) → Keeps th s (of_same_variables x (logic_row x s env goal))
+  -- where each premise of a step that keeps the variables, reads no sorts and uses no other statement holds, the sequent does
+  pub logic_row_sound : IsPlaced th.times → (x : Step) (s : SequentTree) (env : EnvTree) (goal : ℕ) → Keeps th s (of_no_statement x (of_any_sorts x (of_same_variables x (logic_row x s env goal))))
   unfolding logic_row
-  logic_row_sound (step.Hyp h) s env goal = hyp_sound s (goal_of s) (hyp_of s h) h refl refl
-  logic_row_sound step.True s env goal = true_sound s
-  logic_row_sound (step.Absurd h) s env goal = absurd_row_sound s h
-  logic_row_sound step.Impi s env goal = impi_sound s (binary_in 6 (goal_of s)) refl
-  logic_row_sound step.Noti s env goal = noti_sound s (unary_in 3 (goal_of s)) refl
-  logic_row_sound step.Andi s env goal = andi_sound s (binary_in 4 (goal_of s)) refl
-  logic_row_sound step.Orl s env goal = orl_sound s (binary_in 5 (goal_of s)) refl
-  logic_row_sound step.Orr s env goal = orr_sound s (binary_in 5 (goal_of s)) refl
-  logic_row_sound (step.Ande h) s env goal = ande_sound s h (binary_in 4 (hyp_of s h)) refl
-  logic_row_sound (step.Ore h) s env goal = ore_sound s h (binary_in 5 (hyp_of s h)) refl
-  logic_row_sound (step.Impe h) s env goal = impe_sound s h (binary_in 6 (hyp_of s h)) refl
-  logic_row_sound (step.Note h) s env goal = note_sound s h (unary_in 3 (hyp_of s h)) refl
-  logic_row_sound (step.Cut F) s env goal = cut_row_sound th s (term_in env goal s Boolean F)
-  logic_row_sound (step.Em F) s env goal = em_row_sound th s (term_in env goal s Boolean F)
-  logic_row_sound (step.Drop h) s env goal = drop_sound s h
-  logic_row_sound step.Trace s env goal = trace_sound s
-  logic_row_sound step.Refl s env goal = refl_sound s
-  logic_row_sound step.Sym s env goal = sym_sound s (binary_in 7 (local_goal_of s)) refl
-  logic_row_sound (step.Trans w) s env goal = trans_row_sound th s (binary_in 7 (local_goal_of s)) (term_in env goal s Message w) refl
-  logic_row_sound _ s env goal = no_row th s
+  logic_row_sound placed (step.Hyp h) s env goal = hyp_sound s (goal_of s) (hyp_of s h) h refl refl
+  logic_row_sound placed step.True s env goal = true_sound s
+  logic_row_sound placed (step.Absurd h) s env goal = absurd_row_sound s h
+  logic_row_sound placed step.Impi s env goal = impi_sound s (binary_in 6 (goal_of s)) refl
+  logic_row_sound placed step.Noti s env goal = noti_sound s (unary_in 3 (goal_of s)) refl
+  logic_row_sound placed step.Andi s env goal = andi_sound s (binary_in 4 (goal_of s)) refl
+  logic_row_sound placed step.Orl s env goal = orl_sound s (binary_in 5 (goal_of s)) refl
+  logic_row_sound placed step.Orr s env goal = orr_sound s (binary_in 5 (goal_of s)) refl
+  logic_row_sound placed (step.Exi w) s env goal = exi_sound th placed env goal s w (some_in (goal_of s)) refl
+  logic_row_sound placed (step.Ande h) s env goal = ande_sound s h (binary_in 4 (hyp_of s h)) refl
+  logic_row_sound placed (step.Ore h) s env goal = ore_sound s h (binary_in 5 (hyp_of s h)) refl
+  logic_row_sound placed (step.Impe h) s env goal = impe_sound s h (binary_in 6 (hyp_of s h)) refl
+  logic_row_sound placed (step.Note h) s env goal = note_sound s h (unary_in 3 (hyp_of s h)) refl
+  logic_row_sound placed (step.Alle h w) s env goal = alle_sound th placed env goal s h w (all_in (hyp_of s h)) refl
+  logic_row_sound placed (step.Cut F) s env goal = cut_row_sound th s (term_in env goal s Boolean F)
+  logic_row_sound placed (step.Em F) s env goal = em_row_sound th s (term_in env goal s Boolean F)
+  logic_row_sound placed (step.Drop h) s env goal = drop_sound s h
+  logic_row_sound placed step.Proj s env goal = proj_row_sound th s
+  logic_row_sound placed step.Trace s env goal = trace_sound s
+  logic_row_sound placed step.Refl s env goal = refl_sound s
+  logic_row_sound placed step.Sym s env goal = sym_sound s (binary_in 7 (local_goal_of s)) refl
+  logic_row_sound placed (step.Trans w) s env goal = trans_row_sound th s (binary_in 7 (local_goal_of s)) (term_in env goal s Message w) refl
+  logic_row_sound placed _ s env goal = no_row th s
 
 -- of any step, where the sequent is well-sorted
-row_sound : (th : Theory) (g : Signature) (x : Step) (s : SequentTree) (env : EnvTree) (goal : ℕ) → g.vars ≡ vars_of s → is_sorted g s ≡ true → Keeps th s (logic_row x s env goal)
+row_sound : (th : Theory) → IsPlaced th.times → (g : Signature) (x : Step) (s : SequentTree) (env : EnvTree) (goal : ℕ) → env.funs ≡ th.funs → g.vars ≡ vars_of s → g.funs ≡ th.funs → are_functions g.funs ≡ true → is_sorted g s ≡ true
+    → ((k : ℕ) (ws : List TermArg) → Keeps th s (use_row env goal s k ws)) → Keeps th s (logic_row x s env goal)
 unfolding logic_row
-row_sound th g step.Alli s env goal over h = alli_sound th g s (all_in (goal_of s)) over h refl
-row_sound th g (step.Exe k) s env goal over h = exe_sound th g s k (some_in (hyp_of s k)) over h refl
-row_sound th g x s env goal over h = logic_row_sound th x s env goal
+row_sound th placed g step.Alli s env goal known over read ok h used = alli_sound th g s (all_in (goal_of s)) over h refl
+row_sound th placed g (step.Exe k) s env goal known over read ok h used = exe_sound th g s k (some_in (hyp_of s k)) over h refl
+row_sound th placed g step.Arg s env goal known over read ok h used = arg_sound th g read ok s (binary_in 7 (local_goal_of s)) h refl
+row_sound th placed g (step.Rew k d p) s env goal known over read ok h used = rew_sound th g read ok s k d p (hyp_of s k) h refl
+row_sound th placed g (step.UseStmt k ws) s env goal known over read ok h used = used k ws
+row_sound th placed g (step.Fact t) s env goal known over read ok h used = fact_sound th env goal s t known
+row_sound th placed g x s env goal known over read ok h used = logic_row_sound th placed x s env goal
 
 -- a well-formed sequent is well-sorted over its variables
-sorted_of : (env : EnvTree) (o : Option StmtTree) (s : SequentTree) → is_well_formed_for env o s ≡ true → (g : Signature) × (g.vars ≡ vars_of s) × (is_sorted g s ≡ true)
+sorted_of : (env : EnvTree) (o : Option StmtTree) (s : SequentTree) → is_well_formed_for env o s ≡ true → (g : Signature) × (g.vars ≡ vars_of s) × (g.funs ≡ env.funs) × (is_sorted g s ≡ true)
 sorted_of env None s h = let z : false ≡ true = h in absurd (cc)
 sorted_of env (Some st) s h = of_system (slice_get env.systems st.system) h
   where
-    of_system : (o : Option (List ActionTree)) → is_sequent_of env o (length st.schemas) s ≡ true → (g : Signature) × (g.vars ≡ vars_of s) × (is_sorted g s ≡ true)
+    of_system : (o : Option (List ActionTree)) → is_sequent_of env o (length st.schemas) s ≡ true → (g : Signature) × (g.vars ≡ vars_of s) × (g.funs ≡ env.funs) × (is_sorted g s ≡ true)
     of_system None k = let z : false ≡ true = k in absurd (cc)
     of_system (Some actions) k =
         let g : Signature = signature_of env actions (length st.schemas) (vars_of s) in
-        (g, refl, (and_split (is_sorted g s) (fits s) (and_split (list_all is_binder_sort (vars_of s)) _ k).1).0)
+        (g, refl, refl, (and_split (is_sorted g s) (fits s) (and_split (list_all is_binder_sort (vars_of s)) _ k).1).0)
 
 -- the same of the calculus with its limits, in the words of a clause
-pub logic_sound : (x : Step) (s : SequentTree) (env : EnvTree) (g : ℕ) (ps : List SequentTree) → logic_premises x s env g ≡ Ok ps → PremisesSuffice env g ps s
+pub logic_sound : (x : Step) (s : SequentTree) (env : EnvTree) (g : ℕ) (ps : List SequentTree) → is_environment env ≡ true → logic_premises x s env g ≡ Ok ps → PremisesSuffice env g ps s
 unfolding within_limits logic_premises
-logic_sound x s env g ps e w m is_trace earlier h = go (logic_row x s env g) refl e
+logic_sound x s env g ps ok e w m is_trace earlier h = go (logic_row x s env g) refl e
   where
     go : (o : Option (List SequentTree)) → logic_row x s env g ≡ o → judged o ≡ Ok ps → HoldsAt (theory_of env g m) s
     go None f k = absurd (cc)
@@ -276,5 +295,6 @@ logic_sound x s env g ps e w m is_trace earlier h = go (logic_row x s env g) ref
         within true i j =
             let same : Some qs ≡ Some ps = cc in
             let k = sorted_of env (slice_get env.stmts g) s w in
-            row_sound (theory_of env g m) k.0 x s env g k.1 k.2 ps (f ∙ same) h
+            let parts = environment_parts env ok in
+            row_sound (theory_of env g m) (placed_times m) k.0 x s env g refl k.1 k.2 (ap are_functions k.2 ∙ parts.0) k.3 (use_sound env parts.2 g m earlier s) ps (f ∙ same) h
         within false i j = absurd (cc)

@@ -1,5 +1,5 @@
 -- A body with a value for its variable is well-sorted where the body is, and a term stays so where there are more variables.
-use Rattle.std.proofs.Common.{◌≡◌, ◌⊎◌, inl, inr, ℕ, zero, suc, ◌+◌, ◌-◌, ◌<◌, ◌≤◌, refl, sym, ap, ◌∙◌, subst, List, [], ◌∷◌, ◌++◌, map, length, Option, Some, None, Bool, true, false, ◌&&◌, ◌||◌, nat_lt, nat_le, cond, arith}
+use Rattle.std.proofs.Common.{◌≡◌, ◌⊎◌, inl, inr, ℕ, zero, suc, ◌+◌, ◌-◌, ◌<◌, ◌≤◌, refl, ap, subst, List, [], ◌∷◌, ◌++◌, map, length, Some, None, Bool, true, false, ◌&&◌, ◌||◌, nat_le, cond, arith}
 use Rattle.std.specs.Prelude.{slice_get}
 use Rattle.std.proofs.lemmas.Bool.Decides.{nat_tests}
 use Rattle.sq_base.specs.declared.sort.Sort.{Sort}
@@ -10,13 +10,12 @@ use Rattle.sq_term.specs.Arguments.{ArgTree, an_index, a_time}
 use Rattle.sq_term.specs.Symbols.{kind_of}
 use Rattle.sq_term.specs.Syntax.{TsTree, free, bound, init, pred, action, TermTree, name, fun, macro, schema, diff, le, ts_eq, idx_eq, happens, all, some, find, TermTrees, nil, cons}
 use Rattle.sq_term.specs.Pure.{is_connective, has_no_indices, is_trace_sort, count_of, is_pure, are_pure}
-use Rattle.sq_term.specs.TreeEquality.{is_same_sort}
 use Rattle.sq_term.proofs.SameTrees.{is_same_sort-decides}
 use Rattle.sq_term.proofs.BoolTests.{and_split, and_both}
 use Rattle.sq_system.specs.Facts.{holds_diff, hold_diff}
 use Rattle.sq_system.specs.Typing.{Signature, has_sort_at, has_count_at, is_index, are_indices, is_timestamp, has_sort}
-use Rattle.sq_subst.specs.Leaves.{Leaves, map_ts, map_term, map_terms}
-use Rattle.sq_subst.specs.Substitution.{index_or, time_or, past, substitution, opened}
+use Rattle.sq_subst.specs.Leaves.{Leaves, map_term, map_terms}
+use Rattle.sq_subst.specs.Substitution.{index_or, time_or, substitution, opened}
 use Rattle.sq_subst.proofs.TestLaws.{no_tests, passes_none}
 use Rattle.sq_subst.proofs.Fusion.{kept}
 use Rattle.sq_sequent.proofs.KeptSorts.{with_variables, sort_kept}
@@ -32,7 +31,7 @@ pub sort_at-last : (vs : List Sort) (s : Sort) → has_sort_at (vs ++ s ∷ []) 
 sort_at-last [] s = (is_same_sort-decides s s).1 refl
 sort_at-last (v ∷ vs) s = sort_at-last vs s
 
-abbrev keeping : Leaves
+abbrev pub keeping : Leaves
 keeping = record { index = λ m i. i; free_time = λ m k. free k; bound_time = λ m k. bound k; message = λ m k. schema k }
 
 -- each variable keeps its sort

@@ -1,5 +1,5 @@
 -- Each premise of a well-formed sequent is well-formed.
-use Rattle.std.proofs.Common.{◌≡◌, ℕ, refl, sym, ap, subst, ◌∙◌, List, [], ◌∷◌, Option, Some, None, Ok, Err, Bool, true, false, cond, ◌||◌}
+use Rattle.std.proofs.Common.{◌≡◌, ℕ, refl, sym, ap, subst, ◌∙◌, List, [], ◌∷◌, Option, Some, None, Ok, Err, Bool, true, false, cond, ◌||◌, map}
 use Rattle.std.specs.Prelude.{slice_get, nat_lt, length}
 use Rattle.std.specs.List.{list_all}
 use Rattle.sq_base.specs.declared.sort.Sort.{Sort}
@@ -9,31 +9,49 @@ use Rattle.sq_term.specs.declared.term.Side.TheVariants.{Left, Right, Both}
 use Rattle.sq_term.specs.Lists.{Each}
 use Rattle.sq_term.proofs.Members.{each_none, each_cons, each_single}
 use Rattle.sq_term.specs.Pure.{is_pure}
-use Rattle.sq_term.specs.Syntax.{TermTree}
+use Rattle.sq_term.specs.Arguments.{ArgTree}
+use Rattle.sq_term.specs.Syntax.{TermTree, all, some}
 use Rattle.sq_term.specs.Systems.{ActionTree}
 use Rattle.sq_term.specs.TreeEquality.{is_same_sort}
 use Rattle.sq_term.proofs.BoolTests.{and_split, and_both}
+use Rattle.sq_subst.specs.Projection.{projected}
 use Rattle.sq_system.specs.Environments.{EnvTree, StmtTree}
 use Rattle.sq_system.specs.Facts.{holds_diff}
 use Rattle.sq_system.specs.Functions.{are_functions}
 use Rattle.sq_system.specs.Sequents.{SequentTree, trace, local, equiv}
 use Rattle.sq_system.specs.Sizes.{fits, all_fit}
 use Rattle.sq_system.specs.Typing.{Signature, is_binder_sort, result_sort, applies, has_sort}
-use Rattle.sq_system.specs.WellFormed.{signature_of, is_formula, is_trace_formula, is_local_formula, is_sorted, vars_of, is_sequent_of, is_well_formed_for, is_well_formed}
+use Rattle.sq_system.specs.WellFormed.{signature_of, is_formula, is_trace_formula, is_local_formula, is_sorted, vars_of, is_sequent_of, is_well_formed_for, is_well_formed, is_statement, is_environment}
+use Rattle.sq_system.proofs.EnvLaws.{environment_parts}
 use Rattle.sq_sequent.specs.declared.step.Step.{Step}
 use Rattle.sq_sequent.specs.declared.step.Step.TheVariants as step
 use Rattle.sq_sequent.specs.declared.step.TermArg.{TermArg}
 use Rattle.sq_sequent.specs.declared.fault.RuleFault.TheVariants.{TooLarge}
-use Rattle.sq_sequent.specs.Views.{Two, no_two, two, hyps_of, goal_of, local_goal_of, hyp_of, binary_in, unary_in, all_in, some_in}
+use Rattle.sq_sequent.specs.declared.step.ValArg.{ValArg}
+use Rattle.sq_subst.specs.Substitution.{opened}
+use Rattle.sq_sequent.specs.Views.{Two, no_two, two, Binding, no_binding, binding, hyps_of, goal_of, local_goal_of, hyp_of, binary_in, unary_in, all_in, some_in}
 use Rattle.sq_sequent.specs.Places.{term_at}
-use Rattle.sq_sequent.specs.Standing.{signature_for, where_standing, term_in}
+use Rattle.sq_sequent.specs.Standing.{signature_for, where_standing, term_in, value_in}
 use Rattle.sq_sequent.specs.Premises.{falsity, negation, equality, asking, assuming, with_hyps, without, pure_ones, pure_or_false}
-use Rattle.sq_sequent.specs.Logic.{closing_row, hyp_row, impi_row, noti_row, andi_row, orl_row, orr_row, ande_row, ore_row, impe_row, note_row, cut_row, em_row, drop_row, trace_row, refl_row, sym_row, trans_row, logic_row, within_limits, judged, logic_premises}
+use Rattle.sq_sequent.specs.Logic.{closing_row, hyp_row, impi_row, noti_row, andi_row, orl_row, orr_row, ande_row, ore_row, impe_row, note_row, cut_row, em_row, drop_row, proj_row, trace_row, refl_row, sym_row, trans_row, arg_row, asked_at, exi_row, assumed_at, alle_row, logic_row, within_limits, judged, logic_premises}
+use Rattle.sq_sequent.specs.Facts.{standing_fact, assumed_fact, fact_row}
+use Rattle.sq_sequent.specs.Sides.{on_side}
+use Rattle.sq_sequent.specs.Uses.{offered, messages_in, instance_on, used_with, use_row}
 use Rattle.sq_sequent.proofs.BuiltinSorts.{falsity-formula}
 use Rattle.sq_sequent.proofs.Inversion.{binary_tree, unary_tree, binary_in_is, unary_in_is}
-use Rattle.sq_sequent.proofs.Rows.{of_same_variables}
+use Rattle.sq_sequent.proofs.Rows.{of_same_variables, of_no_statement}
+use Rattle.sq_sequent.proofs.Offers.{offered-is, messages-stand}
+use Rattle.sq_sequent.proofs.UseSorts.{use_stands}
+use Rattle.sq_sequent.proofs.Opened.{is_value}
+use Rattle.sq_sequent.proofs.QuantifierSound.{all_in_is, some_in_is}
+use Rattle.sq_sequent.proofs.Witness.{value-stands, all-suited, some-suited}
 use Rattle.sq_sequent.proofs.QuantifierSorts.{IsSorted, alli-sorts, exe-sorts}
+use Rattle.sq_sequent.proofs.ArgumentSorts.{arguments-suited}
+use Rattle.sq_sequent.proofs.ArgumentLists.{AsksArguments, applications-are}
 use Rattle.sq_sequent.proofs.Suited.{suited, suited-formula, suited-from, hyp-suited, goal-suited, assuming-sorted, asking-sorted, asking-suits, assuming-suits, without-sorted, pure_ones-sorted, conjunct-first, conjunct-second, disjunct-first, disjunct-second, implication-first, implication-second, negated}
+use Rattle.sq_sequent.proofs.FactSorts.{stood, fact-stands}
+use Rattle.sq_sequent.proofs.SideSorts.{side-formula, side-formulas}
+use Rattle.sq_sequent.proofs.RewriteSorts.{rew_sorts}
 use Rattle.sq_sequent.proofs.WrittenSuited.{signature-at, same-vars, Stands, stands-suited, negation-suited, equation-sides, equation-of, written-stands}
 
 -- ---- false may stand everywhere
@@ -256,13 +274,95 @@ module _ (g : Signature) (ok : are_functions g.funs ≡ true) where
   trans-sorts (trace vars H c) (two u v) (Some w) h q k = let y : None ≡ Some (binary_tree 7 u v) = binary_in_is 7 None u v q in absurd (cc)
   trans-sorts (equiv vars H known items) (two u v) (Some w) h q k = let y : None ≡ Some (binary_tree 7 u v) = binary_in_is 7 None u v q in absurd (cc)
 
+  -- the body of a quantifier at the value of an argument, if there is one
+  asked_at-sorts : (s : SequentTree) (F : TermTree) (o : Option ArgTree) → is_sorted g s ≡ true → ((v : ArgTree) → o ≡ Some v → suited g s (opened v F) ≡ true) → Sorts s (asked_at s F o)
+  asked_at-sorts s F None h k = nothing s
+  asked_at-sorts s F (Some v) h k = one s (asking s (opened v F)) (asked s (opened v F) h (k v refl))
+
+  assumed_at-sorts : (s : SequentTree) (F : TermTree) (o : Option ArgTree) → is_sorted g s ≡ true → ((v : ArgTree) → o ≡ Some v → suited g s (opened v F) ≡ true) → Sorts s (assumed_at s F o)
+  assumed_at-sorts s F None h k = nothing s
+  assumed_at-sorts s F (Some v) h k = one s (assuming s (opened v F)) (assumed s (opened v F) h (k v refl))
+
+  -- the value of an argument, where the signature is the goal's
+  valued : (env : EnvTree) (goal : ℕ) (s : SequentTree) (x : Sort) (w : ValArg) (v : ArgTree) → g ≡ signature_for env goal (vars_of s) → value_in env goal s x w ≡ Some v → is_value g x v ≡ true
+  valued env goal s x w v e q = subst (λ i. is_value i x v ≡ true) (sym (e ∙ ap (signature_for env goal) (same-vars s))) (value-stands env goal s x w v q)
+
+  exi-sorts : (env : EnvTree) (goal : ℕ) (s : SequentTree) (w : ValArg) (o : Binding) → g ≡ signature_for env goal (vars_of s) → is_sorted g s ≡ true → some_in (goal_of s) ≡ o
+      → Sorts s (exi_row env goal s w o)
+  exi-sorts env goal s w no_binding e h q = nothing s
+  exi-sorts env goal s w (binding x F) e h q =
+      asked_at-sorts s F (value_in env goal s x w) h
+      (λ v r. some-suited g x v F (valued env goal s x w v e r) s (goal-suited g s (some x F) h (some_in_is (goal_of s) x F q)))
+
+  alle-sorts : (env : EnvTree) (goal : ℕ) (s : SequentTree) (k : ℕ) (w : ValArg) (o : Binding) → g ≡ signature_for env goal (vars_of s) → is_sorted g s ≡ true → all_in (hyp_of s k) ≡ o
+      → Sorts s (alle_row env goal s w o)
+  alle-sorts env goal s k w no_binding e h q = nothing s
+  alle-sorts env goal s k w (binding x F) e h q =
+      assumed_at-sorts s F (value_in env goal s x w) h
+      (λ v r. all-suited g x v F (valued env goal s x w v e r) s (hyp-suited g s k (all x F) h (all_in_is (hyp_of s k) x F q)))
+
+  arg-sorts : (s : SequentTree) (o : Two) → is_sorted g s ≡ true → binary_in 7 (local_goal_of s) ≡ o → Sorts s (arg_row s o)
+  unfolding local_goal_of
+  arg-sorts s no_two h q = nothing s
+  arg-sorts (local side vars H c) (two t u) h q = λ ps r.
+      let y : Some c ≡ Some (binary_tree 7 t u) = binary_in_is 7 (Some c) t u q in
+      let z : c ≡ equality t u = cc in
+      let p = and_split (list_all (is_local_formula g side) H) _ h in
+      let e = equation-sides g side t u (ap (is_local_formula g side) (sym z) ∙ p.1) in
+      let k : AsksArguments (local side vars H c) t u ps = applications-are (local side vars H c) t u ps r in
+      subst (Each (Sorted (local side vars H c))) (sym k.asked)
+      (arguments-suited g ok (local side vars H c) side (Sorted (local side vars H c)) (λ F i. asked (local side vars H c) F h i) k.function k.indices t u k.first k.second k.left_is k.right_is e.0 e.1)
+  arg-sorts (trace vars H c) (two u v) h q = let y : None ≡ Some (binary_tree 7 u v) = binary_in_is 7 None u v q in absurd (cc)
+  arg-sorts (equiv vars H known items) (two u v) h q = let y : None ≡ Some (binary_tree 7 u v) = binary_in_is 7 None u v q in absurd (cc)
+
+  proj-sorts : (s : SequentTree) → is_sorted g s ≡ true → Sorts s (proj_row s)
+  proj-sorts (local Both vars H c) h =
+      let p = and_split (list_all (is_local_formula g Both) H) _ h in
+      both (local Both vars H c) (on_side Left vars H c) (on_side Right vars H c)
+      (refl, and_both (list_all (is_local_formula g Left) (map (projected Left) H)) _ (side-formulas g Left H p.0) (side-formula g Left c p.1))
+      (refl, and_both (list_all (is_local_formula g Right) (map (projected Right) H)) _ (side-formulas g Right H p.0) (side-formula g Right c p.1))
+  proj-sorts (local Left vars H c) h = nothing (local Left vars H c)
+  proj-sorts (local Right vars H c) h = nothing (local Right vars H c)
+  proj-sorts (trace vars H c) h = nothing (trace vars H c)
+  proj-sorts (equiv vars H known items) h = nothing (equiv vars H known items)
+
+  fact-sorts : (env : EnvTree) (goal : ℕ) (s : SequentTree) (a : TermArg) → g ≡ signature_for env goal (vars_of s) → is_sorted g s ≡ true → Sorts s (fact_row env goal s a)
+  fact-sorts env goal (trace vars H c) a e h = nothing (trace vars H c)
+  fact-sorts env goal (equiv vars H known items) a e h = nothing (equiv vars H known items)
+  fact-sorts env goal (local side vars H c) a e h = go (standing_fact env goal (local side vars H c) (term_at (local side vars H c) a)) refl
+    where
+      go : (o : Option TermTree) → standing_fact env goal (local side vars H c) (term_at (local side vars H c) a) ≡ o → Sorts (local side vars H c) (assumed_fact (local side vars H c) o)
+      go None q = nothing (local side vars H c)
+      go (Some F) q =
+          let funs : are_functions env.funs ≡ true = subst (λ (i : Signature). are_functions i.funs ≡ true) e ok in
+          let k = fact-stands env goal side vars H c F funs (stood env goal (local side vars H c) (term_at (local side vars H c) a) F q) in
+          one (local side vars H c) (assuming (local side vars H c) F) (assumed (local side vars H c) F h (subst (λ i. is_local_formula i side F ≡ true) (sym e) k))
+
   -- the term of an argument, where the signature is the goal's
   written : (env : EnvTree) (goal : ℕ) (s : SequentTree) (sort : Sort) (a : TermArg) → g ≡ signature_for env goal (vars_of s) → Stands g s sort (term_in env goal s sort a)
   unfolding term_in
   written env goal s sort a e =
       subst (λ i. Stands i s sort (where_standing env goal s sort (term_at s a))) (sym (e ∙ ap (signature_for env goal) (same-vars s))) (written-stands env goal s sort (term_at s a))
 
-  pub row-sorts : (x : Step) (s : SequentTree) (env : EnvTree) (goal : ℕ) → g ≡ signature_for env goal (vars_of s) → is_sorted g s ≡ true → Sorts s (of_same_variables x (logic_row x s env goal))
+  use-sorts : (env : EnvTree) (goal : ℕ) (s : SequentTree) (k : ℕ) (ws : List TermArg) → list_all (is_statement env) env.stmts ≡ true → g ≡ signature_for env goal (vars_of s) → is_sorted g s ≡ true
+      → Sorts s (use_row env goal s k ws)
+  unfolding use_row
+  use-sorts env goal (trace vars H c) k ws fine e h = nothing (trace vars H c)
+  use-sorts env goal (equiv vars H known items) k ws fine e h = nothing (equiv vars H known items)
+  use-sorts env goal (local side vars H c) k ws fine e h = go (offered env goal k (length ws)) refl (messages_in env goal (local side vars H c) ws) refl
+    where
+      go : (o : Option TermTree) → offered env goal k (length ws) ≡ o → (q : Option (List TermTree)) → messages_in env goal (local side vars H c) ws ≡ q
+          → Sorts (local side vars H c) (used_with (local side vars H c) side o q)
+      go None i q r = nothing (local side vars H c)
+      go (Some F) i None r = nothing (local side vars H c)
+      go (Some F) i (Some ms) r =
+          let stand = messages-stand env goal (local side vars H c) ws ms r in
+          let there : is_local_formula (signature_for env goal vars) side (instance_on side ms F) ≡ true =
+          use_stands env goal k (length ws) F (offered-is env fine goal k (length ws) F i) side vars H c ms stand.0 stand.1 in
+          one (local side vars H c) (assuming (local side vars H c) (instance_on side ms F))
+          (assumed (local side vars H c) (instance_on side ms F) h (subst (λ x. is_local_formula x side (instance_on side ms F) ≡ true) (sym e) there))
+
+  pub row-sorts : (x : Step) (s : SequentTree) (env : EnvTree) (goal : ℕ) → g ≡ signature_for env goal (vars_of s) → is_sorted g s ≡ true → Sorts s (of_no_statement x (of_same_variables x (logic_row x s env goal)))
   unfolding logic_row
   row-sorts (step.Hyp k) s env goal e h = hyp-sorts s (goal_of s) (hyp_of s k)
   row-sorts step.True s env goal e h = none_left s _
@@ -272,17 +372,23 @@ module _ (g : Signature) (ok : are_functions g.funs ≡ true) where
   row-sorts step.Andi s env goal e h = andi-sorts s (binary_in 4 (goal_of s)) h refl
   row-sorts step.Orl s env goal e h = orl-sorts s (binary_in 5 (goal_of s)) h refl
   row-sorts step.Orr s env goal e h = orr-sorts s (binary_in 5 (goal_of s)) h refl
+  row-sorts (step.Exi w) s env goal e h = exi-sorts env goal s w (some_in (goal_of s)) e h refl
   row-sorts (step.Ande k) s env goal e h = ande-sorts s k (binary_in 4 (hyp_of s k)) h refl
   row-sorts (step.Ore k) s env goal e h = ore-sorts s k (binary_in 5 (hyp_of s k)) h refl
   row-sorts (step.Impe k) s env goal e h = impe-sorts s k (binary_in 6 (hyp_of s k)) h refl
   row-sorts (step.Note k) s env goal e h = note-sorts s k (unary_in 3 (hyp_of s k)) h refl
+  row-sorts (step.Alle k w) s env goal e h = alle-sorts env goal s k w (all_in (hyp_of s k)) e h refl
   row-sorts (step.Cut F) s env goal e h = cut-sorts s (term_in env goal s Boolean F) h (written env goal s Boolean F e)
   row-sorts (step.Em F) s env goal e h = em-sorts s (term_in env goal s Boolean F) h (written env goal s Boolean F e)
   row-sorts (step.Drop k) s env goal e h = drop-sorts s k h
+  row-sorts step.Proj s env goal e h = proj-sorts s h
   row-sorts step.Trace s env goal e h = trace-sorts s h
   row-sorts step.Refl s env goal e h = refl-sorts s
   row-sorts step.Sym s env goal e h = sym-sorts s (binary_in 7 (local_goal_of s)) h refl
   row-sorts (step.Trans w) s env goal e h = trans-sorts s (binary_in 7 (local_goal_of s)) (term_in env goal s Message w) h refl (written env goal s Message w e)
+  row-sorts step.Arg s env goal e h = arg-sorts s (binary_in 7 (local_goal_of s)) h refl
+  row-sorts (step.Fact t) s env goal e h = fact-sorts env goal s t e h
+  row-sorts (step.Rew k d p) s env goal e h = rew_sorts g s k d p (hyp_of s k) h refl
   row-sorts _ s env goal e h = nothing s
 
 -- ---- well-formed for a goal
@@ -300,36 +406,39 @@ module _ (e : EnvTree) (actions : List ActionTree) (n : ℕ) (ok : are_functions
   same_variables s p b (q, r) = (ap (list_all is_binder_sort) q ∙ b, ap (λ vs. is_sorted (signature_of e actions n vs) p) q ∙ r)
 
   -- each premise of any row is well-sorted
-  any-row-sorts : (x : Step) (s : SequentTree) (env : EnvTree) (goal : ℕ) → over_vars_of s ≡ signature_for env goal (vars_of s)
+  any-row-sorts : (x : Step) (s : SequentTree) (env : EnvTree) (goal : ℕ) → list_all (is_statement env) env.stmts ≡ true → over_vars_of s ≡ signature_for env goal (vars_of s)
       → list_all is_binder_sort (vars_of s) ≡ true → is_sorted (over_vars_of s) s ≡ true
       → (ps : List SequentTree) → logic_row x s env goal ≡ Some ps → Each (IsSorted (over_vars_of s)) ps
   unfolding logic_row
-  any-row-sorts step.Alli s env goal same b h ps r = alli-sorts (over_vars_of s) s (all_in (goal_of s)) refl b h refl ps r
-  any-row-sorts (step.Exe k) s env goal same b h ps r = exe-sorts (over_vars_of s) s k (some_in (hyp_of s k)) refl b h refl ps r
-  any-row-sorts x s env goal same b h ps r = λ p i. same_variables s p b (row-sorts (over_vars_of s) ok x s env goal same h ps r p i)
+  any-row-sorts step.Alli s env goal fine same b h ps r = alli-sorts (over_vars_of s) s (all_in (goal_of s)) refl b h refl ps r
+  any-row-sorts (step.Exe k) s env goal fine same b h ps r = exe-sorts (over_vars_of s) s k (some_in (hyp_of s k)) refl b h refl ps r
+  any-row-sorts (step.UseStmt k ws) s env goal fine same b h ps r = λ p i. same_variables s p b (use-sorts (over_vars_of s) ok env goal s k ws fine same h ps r p i)
+  any-row-sorts x s env goal fine same b h ps r = λ p i. same_variables s p b (row-sorts (over_vars_of s) ok x s env goal same h ps r p i)
 
   judged_premise : (s p : SequentTree) → IsSorted (over_vars_of s) p → fits p ≡ true → is_sequent_of e (Some actions) n p ≡ true
   judged_premise s p (b, r) fit = and_both (list_all is_binder_sort (vars_of p)) _ b (and_both (is_sorted (over_vars_of p) p) (fits p) r fit)
 
 premise-of : (e : EnvTree) (actions : Option (List ActionTree)) (n : ℕ) (x : Step) (s : SequentTree) (env : EnvTree) (goal : ℕ) (ps : List SequentTree)
     → ((xs : List ActionTree) → actions ≡ Some xs → signature_of e xs n (vars_of s) ≡ signature_for env goal (vars_of s))
-    → are_functions e.funs ≡ true → is_sequent_of e actions n s ≡ true → logic_row x s env goal ≡ Some ps → all_fit ps ≡ true → Each (λ p. is_sequent_of e actions n p ≡ true) ps
-premise-of e None n x s env goal ps same ok h r f = absurd (cc)
-premise-of e (Some actions) n x s env goal ps same ok h r f =
+    → are_functions e.funs ≡ true → list_all (is_statement env) env.stmts ≡ true → is_sequent_of e actions n s ≡ true → logic_row x s env goal ≡ Some ps → all_fit ps ≡ true
+    → Each (λ p. is_sequent_of e actions n p ≡ true) ps
+premise-of e None n x s env goal ps same ok fine h r f = absurd (cc)
+premise-of e (Some actions) n x s env goal ps same ok fine h r f =
     let v = and_split (list_all is_binder_sort (vars_of s)) _ h in
     let w = and_split (is_sorted (signature_of e actions n (vars_of s)) s) (fits s) v.1 in
-    λ p i. judged_premise e actions n ok s p (any-row-sorts e actions n ok x s env goal (same actions refl) v.0 w.0 ps r p i) (fit-at ps f p i)
+    λ p i. judged_premise e actions n ok s p (any-row-sorts e actions n ok x s env goal fine (same actions refl) v.0 w.0 ps r p i) (fit-at ps f p i)
 
 pub premise_for : (env : EnvTree) (goal : ℕ) (g : Option StmtTree) (x : Step) (s : SequentTree) (ps : List SequentTree)
-    → slice_get env.stmts goal ≡ g → are_functions env.funs ≡ true → is_well_formed_for env g s ≡ true → logic_row x s env goal ≡ Some ps → all_fit ps ≡ true
+    → slice_get env.stmts goal ≡ g → is_environment env ≡ true → is_well_formed_for env g s ≡ true → logic_row x s env goal ≡ Some ps → all_fit ps ≡ true
     → Each (λ p. is_well_formed_for env g p ≡ true) ps
 premise_for env goal None x s ps at ok h r f = absurd (cc)
 premise_for env goal (Some st) x s ps at ok h r f =
-    premise-of env (slice_get env.systems st.system) (length st.schemas) x s env goal ps (λ xs e. signature-at env goal st xs (vars_of s) at e) ok h r f
+    premise-of env (slice_get env.systems st.system) (length st.schemas) x s env goal ps (λ xs e. signature-at env goal st xs (vars_of s) at e)
+    (environment_parts env ok).0 (environment_parts env ok).2 h r f
 
 -- each premise of a well-formed sequent is well-formed
 pub premises_well_formed : (x : Step) (s : SequentTree) (env : EnvTree) (goal : ℕ) (ps : List SequentTree)
-    → are_functions env.funs ≡ true → logic_premises x s env goal ≡ Ok ps → is_well_formed env goal s ≡ true → Each (λ p. is_well_formed env goal p ≡ true) ps
+    → is_environment env ≡ true → logic_premises x s env goal ≡ Ok ps → is_well_formed env goal s ≡ true → Each (λ p. is_well_formed env goal p ≡ true) ps
 unfolding within_limits logic_premises
 premises_well_formed x s env goal ps ok e h = go (logic_row x s env goal) refl e
   where

@@ -4,7 +4,7 @@ use Rattle.std.specs.Prelude.{slice_get}
 use Rattle.std.specs.List.{list_all}
 use Rattle.sq_base.specs.declared.sort.Sort.{Sort}
 use Rattle.sq_base.specs.declared.sort.Sort.TheVariants.{Message, Boolean}
-use Rattle.sq_term.specs.Lists.{Member, here, there, Each}
+use Rattle.sq_term.specs.Lists.{Member, Each}
 use Rattle.sq_term.specs.Syntax.{TermTree, all, some}
 use Rattle.sq_term.specs.Within.{IsWithin}
 use Rattle.sq_term.proofs.Members.{each_none, each_cons}
@@ -16,7 +16,7 @@ use Rattle.sq_system.specs.WellFormed.{is_trace_formula, is_local_formula, has_b
 use Rattle.sq_subst.specs.Substitution.{opened}
 use Rattle.sq_ground.specs.Rules.{Theory}
 use Rattle.sq_ground.specs.Holding.{HoldsAt}
-use Rattle.sq_sequent.specs.Views.{Binding, no_binding, binding, as_all, as_some, all_in, some_in, hyps_of, goal_of, hyp_of}
+use Rattle.sq_sequent.specs.Views.{Binding, no_binding, binding, as_all, as_some, all_in, some_in, goal_of, hyp_of}
 use Rattle.sq_sequent.specs.Premises.{asking, assuming, with_variable, variable}
 use Rattle.sq_sequent.specs.Logic.{alli_row, exe_row}
 use Rattle.sq_sequent.proofs.Inversion.{get_member}

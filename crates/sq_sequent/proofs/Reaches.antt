@@ -1,5 +1,5 @@
 -- A well-sorted term names only the variables of its signature.
-use Rattle.std.proofs.Common.{◌≡◌, ℕ, zero, suc, ◌<◌, ◌++◌, List, [], ◌∷◌, length, Bool, true, false, ◌&&◌, arith}
+use Rattle.std.proofs.Common.{◌≡◌, ℕ, zero, suc, ◌<◌, ◌++◌, List, [], ◌∷◌, length, true, false, arith}
 use Rattle.std.specs.Prelude.{slice_get, replicate}
 use Rattle.sq_base.specs.declared.sort.Sort.{Sort}
 use Rattle.sq_base.specs.declared.sort.Sort.TheVariants.{Message, Boolean, Index, Timestamp}

@@ -3,5 +3,9 @@ pub mod Premises
 pub mod Places
 pub mod Scopes
 pub mod Standing
+pub mod Sides
+pub mod Facts
+pub mod Uses
+pub mod Rewriting
 pub mod Logic
 pub mod Soundness

@@ -1,7 +1,13 @@
 -- The logic rows of the calculus: from a step and a sequent to premises.
-use Rattle.std.specs.Prelude.{ℕ, nat_lt, length, Bool, true, false, cond, ◌&&◌, List, [], ◌∷◌, map, Option, Some, None, Result, Ok, Err}
+use Rattle.std.specs.Prelude.{ℕ, suc, ◌==◌, nat_lt, length, Bool, true, false, cond, ◌&&◌, List, [], ◌∷◌, map, Option, Some, None, Result, Ok, Err}
 use Rattle.sq_base.specs.declared.sort.Sort.TheVariants.{Message, Boolean}
-use Rattle.sq_term.specs.Syntax.{TermTree}
+use Rattle.std.specs.Cmp.Lexicographic.{pointwise}
+use Rattle.sq_term.specs.Arguments.{ArgTree}
+use Rattle.sq_term.specs.declared.term.Side.TheVariants as side
+use Rattle.sq_term.specs.Signatures.{takes_boolean}
+use Rattle.sq_term.specs.Symbols as kind
+use Rattle.sq_term.specs.Symbols.{function_number}
+use Rattle.sq_term.specs.Syntax.{TermTree, fun, TermTrees, cons}
 use Rattle.sq_term.specs.TreeEquality.{is_same_tree}
 use Rattle.sq_term.specs.TsEquality.{is_same_idx, is_same_ts_tree}
 use Rattle.sq_system.specs.declared.sequent.Sequent.{Sequent}
@@ -11,12 +17,18 @@ use Rattle.sq_sequent.specs.declared.fault.RuleFault.{RuleFault}
 use Rattle.sq_sequent.specs.declared.fault.RuleFault.TheVariants.{Shape, TooLarge}
 use Rattle.sq_sequent.specs.declared.step.Step.{Step}
 use Rattle.sq_sequent.specs.declared.step.Step.TheVariants as step
-use Rattle.sq_sequent.specs.Standing.{term_in}
+use Rattle.sq_sequent.specs.declared.step.ValArg.{ValArg}
+use Rattle.sq_sequent.specs.Standing.{term_in, value_in}
+use Rattle.sq_sequent.specs.Sides.{on_side}
+use Rattle.sq_sequent.specs.Facts.{fact_row}
+use Rattle.sq_sequent.specs.Uses.{use_row}
+use Rattle.sq_sequent.specs.Rewriting.{rewriting_of, rew_row}
 use Rattle.sq_system.specs.Sizes.{all_fit}
+use Rattle.sq_system.specs.Typing.{count_terms}
 use Rattle.sq_subst.specs.Substitution.{opened}
 use Rattle.sq_subst.specs.Room as room
 use Rattle.sq_sequent.specs.Views.{Two, no_two, two, Binding, no_binding, binding, Equation, no_equation, of_messages, of_times, of_indices, as_equation, hyps_of, hyp_of, goal_of, local_goal_of, binary_in, unary_in, constant_in, all_in, some_in}
-use Rattle.sq_sequent.specs.Premises.{falsity, negation, equality, asking, assuming, with_hyps, with_variable, new_variable, without, pure_ones, pure_or_false}
+use Rattle.sq_sequent.specs.Premises.{falsity, negation, equality, equivalence, asking, assuming, with_hyps, with_variable, new_variable, without, pure_ones, pure_or_false}
 
 abbrev pub sequent_trees : List Sequent → List SequentTree
 sequent_trees ss = map sequent_tree ss
@@ -59,6 +71,15 @@ abbrev pub orr_row : SequentTree → Two → Option (List SequentTree)
 orr_row s no_two = None
 orr_row s (two a b) = Some (asking s b ∷ [])
 
+-- exi: the goal is `exists x, F`, of a value for x
+abbrev pub asked_at : SequentTree → TermTree → Option ArgTree → Option (List SequentTree)
+asked_at s F None = None
+asked_at s F (Some w) = Some (asking s (opened w F) ∷ [])
+
+abbrev pub exi_row : EnvTree → ℕ → SequentTree → ValArg → Binding → Option (List SequentTree)
+exi_row env goal s w no_binding = None
+exi_row env goal s w (binding x F) = asked_at s F (value_in env goal s x w)
+
 -- ande: the hypothesis is `a && b`
 abbrev pub ande_row : SequentTree → Two → Option (List SequentTree)
 ande_row s no_two = None
@@ -79,6 +100,15 @@ abbrev pub note_row : SequentTree → Option TermTree → Option (List SequentTr
 note_row s None = None
 note_row s (Some a) = Some (asking s a ∷ [])
 
+-- alle: the hypothesis is `forall x, F`, of a value for x
+abbrev pub assumed_at : SequentTree → TermTree → Option ArgTree → Option (List SequentTree)
+assumed_at s F None = None
+assumed_at s F (Some w) = Some (assuming s (opened w F) ∷ [])
+
+abbrev pub alle_row : EnvTree → ℕ → SequentTree → ValArg → Binding → Option (List SequentTree)
+alle_row env goal s w no_binding = None
+alle_row env goal s w (binding x F) = assumed_at s F (value_in env goal s x w)
+
 -- exe: the hypothesis is `exists x, F`
 abbrev pub exe_row : SequentTree → Binding → Option (List SequentTree)
 exe_row s no_binding = None
@@ -96,6 +126,14 @@ em_row s (Some F) = Some (assuming s F ∷ assuming s (negation F) ∷ [])
 -- drop: of a hypothesis
 abbrev pub drop_row : SequentTree → ℕ → Option (List SequentTree)
 drop_row s h = cond (nat_lt h (length (hyps_of s))) (Some (with_hyps (without (hyps_of s) h) s ∷ [])) None
+
+-- proj: a local sequent of both sides, as it is read on each
+abbrev pub proj_row : SequentTree → Option (List SequentTree)
+proj_row (trace vars hyps g) = None
+proj_row (local side.Both vars hyps g) = Some (on_side side.Left vars hyps g ∷ on_side side.Right vars hyps g ∷ [])
+proj_row (local side.Left vars hyps g) = None
+proj_row (local side.Right vars hyps g) = None
+proj_row (equiv vars hyps known items) = None
 
 -- trace: what the sequent says of the trace alone
 abbrev pub trace_row : SequentTree → Option (List SequentTree)
@@ -126,29 +164,54 @@ trans_row s no_two w = None
 trans_row s (two u v) None = None
 trans_row s (two u v) (Some w) = Some (asking s (equality u w) ∷ asking s (equality w v) ∷ [])
 
+-- arg: the goal of a local sequent is `f(us) = f(vs)`, with the same indices. Two messages are to be equal, two Booleans equivalent.
+abbrev pub asked_alike : Bool → TermTree → TermTree → TermTree
+asked_alike boolean u v = cond boolean (equivalence u v) (equality u v)
+
+-- from argument k of function f on
+abbrev pub arguments_asked : SequentTree → ℕ → ℕ → TermTrees → TermTrees → List SequentTree
+arguments_asked s f k (cons u us) (cons v vs) = asking s (asked_alike (takes_boolean f k) u v) ∷ arguments_asked s f (suc k) us vs
+arguments_asked s f k us vs = []
+
+unfoldable pub applications_row : SequentTree → TermTree → TermTree → Option (List SequentTree)
+applications_row s (fun f is us) (fun g js vs) =
+    cond ((f == g) && (pointwise is_same_idx is js && (count_terms us == count_terms vs))) (Some (arguments_asked s f 0 us vs)) None
+applications_row s t u = None
+
+abbrev pub arg_row : SequentTree → Two → Option (List SequentTree)
+arg_row s no_two = None
+arg_row s (two t u) = applications_row s t u
+
 -- the premises of a step, where its row applies
 unfoldable pub logic_row : Step → SequentTree → EnvTree → ℕ → Option (List SequentTree)
 logic_row (step.Hyp h) s env goal = hyp_row (goal_of s) (hyp_of s h)
-logic_row step.True s env goal = closing_row (constant_in 1 (goal_of s))
-logic_row (step.Absurd h) s env goal = closing_row (constant_in 2 (hyp_of s h))
-logic_row step.Impi s env goal = impi_row s (binary_in 6 (goal_of s))
-logic_row step.Noti s env goal = noti_row s (unary_in 3 (goal_of s))
+logic_row step.True s env goal = closing_row (constant_in (function_number kind.truth) (goal_of s))
+logic_row (step.Absurd h) s env goal = closing_row (constant_in (function_number kind.falsity) (hyp_of s h))
+logic_row step.Impi s env goal = impi_row s (binary_in (function_number kind.implication) (goal_of s))
+logic_row step.Noti s env goal = noti_row s (unary_in (function_number kind.negation) (goal_of s))
 logic_row step.Alli s env goal = alli_row s (all_in (goal_of s))
-logic_row step.Andi s env goal = andi_row s (binary_in 4 (goal_of s))
-logic_row step.Orl s env goal = orl_row s (binary_in 5 (goal_of s))
-logic_row step.Orr s env goal = orr_row s (binary_in 5 (goal_of s))
-logic_row (step.Ande h) s env goal = ande_row s (binary_in 4 (hyp_of s h))
-logic_row (step.Ore h) s env goal = ore_row s (binary_in 5 (hyp_of s h))
-logic_row (step.Impe h) s env goal = impe_row s (binary_in 6 (hyp_of s h))
-logic_row (step.Note h) s env goal = note_row s (unary_in 3 (hyp_of s h))
+logic_row step.Andi s env goal = andi_row s (binary_in (function_number kind.conjunction) (goal_of s))
+logic_row step.Orl s env goal = orl_row s (binary_in (function_number kind.disjunction) (goal_of s))
+logic_row step.Orr s env goal = orr_row s (binary_in (function_number kind.disjunction) (goal_of s))
+logic_row (step.Exi w) s env goal = exi_row env goal s w (some_in (goal_of s))
+logic_row (step.Ande h) s env goal = ande_row s (binary_in (function_number kind.conjunction) (hyp_of s h))
+logic_row (step.Ore h) s env goal = ore_row s (binary_in (function_number kind.disjunction) (hyp_of s h))
+logic_row (step.Impe h) s env goal = impe_row s (binary_in (function_number kind.implication) (hyp_of s h))
+logic_row (step.Note h) s env goal = note_row s (unary_in (function_number kind.negation) (hyp_of s h))
+logic_row (step.Alle h w) s env goal = alle_row env goal s w (all_in (hyp_of s h))
 logic_row (step.Exe h) s env goal = exe_row s (some_in (hyp_of s h))
 logic_row (step.Cut F) s env goal = cut_row s (term_in env goal s Boolean F)
 logic_row (step.Em F) s env goal = em_row s (term_in env goal s Boolean F)
 logic_row (step.Drop h) s env goal = drop_row s h
+logic_row (step.UseStmt k ws) s env goal = use_row env goal s k ws
+logic_row step.Proj s env goal = proj_row s
 logic_row step.Trace s env goal = trace_row s
 logic_row step.Refl s env goal = refl_row s
-logic_row step.Sym s env goal = sym_row s (binary_in 7 (local_goal_of s))
-logic_row (step.Trans w) s env goal = trans_row s (binary_in 7 (local_goal_of s)) (term_in env goal s Message w)
+logic_row step.Sym s env goal = sym_row s (binary_in (function_number kind.equality) (local_goal_of s))
+logic_row (step.Trans w) s env goal = trans_row s (binary_in (function_number kind.equality) (local_goal_of s)) (term_in env goal s Message w)
+logic_row step.Arg s env goal = arg_row s (binary_in (function_number kind.equality) (local_goal_of s))
+logic_row (step.Rew h d p) s env goal = rew_row s h p (rewriting_of s d (hyp_of s h))
+logic_row (step.Fact t) s env goal = fact_row env goal s t
 logic_row _ s env goal = None
 
 -- the term, or TooLarge where no sequent may hold it

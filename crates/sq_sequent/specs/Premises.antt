@@ -5,24 +5,30 @@ use Rattle.sq_base.specs.declared.sort.Sort.TheVariants as sort
 use Rattle.sq_term.specs.declared.term.Idx.TheVariants as idx
 use Rattle.sq_term.specs.Arguments.{ArgTree, an_index, a_time}
 use Rattle.sq_term.specs.Pure.{is_pure}
+use Rattle.sq_term.specs.Symbols as kind
+use Rattle.sq_term.specs.Symbols.{function_number}
 use Rattle.sq_term.specs.Syntax.{free, TermTree, fun, nil, cons}
 use Rattle.sq_system.specs.Sequents.{SequentTree, trace, local, equiv}
 
 -- formulas
 abbrev pub falsity : TermTree
-falsity = fun 2 [] nil
+falsity = fun (function_number kind.falsity) [] nil
 
 abbrev pub negation : TermTree → TermTree
-negation a = fun 3 [] (cons a nil)
+negation a = fun (function_number kind.negation) [] (cons a nil)
 
 abbrev pub conjunction : TermTree → TermTree → TermTree
-conjunction a b = fun 4 [] (cons a (cons b nil))
+conjunction a b = fun (function_number kind.conjunction) [] (cons a (cons b nil))
 
 abbrev pub implication : TermTree → TermTree → TermTree
-implication a b = fun 6 [] (cons a (cons b nil))
+implication a b = fun (function_number kind.implication) [] (cons a (cons b nil))
 
 abbrev pub equality : TermTree → TermTree → TermTree
-equality a b = fun 7 [] (cons a (cons b nil))
+equality a b = fun (function_number kind.equality) [] (cons a (cons b nil))
+
+-- a => b and b => a
+abbrev pub equivalence : TermTree → TermTree → TermTree
+equivalence a b = conjunction (implication a b) (implication b a)
 
 -- the sorts of the variables
 abbrev pub vars_of : SequentTree → List Sort

@@ -2,6 +2,8 @@
 use Rattle.std.specs.Prelude.{ℕ, ◌==◌, Bool, true, false, List, [], Option, Some, None, slice_get}
 use Rattle.sq_base.specs.declared.sort.Sort.{Sort}
 use Rattle.sq_term.specs.declared.term.Idx.{Idx}
+use Rattle.sq_term.specs.Symbols as kind
+use Rattle.sq_term.specs.Symbols.{function_number}
 use Rattle.sq_term.specs.Syntax.{TsTree, TermTree, fun, ts_eq, idx_eq, all, some, TermTrees, nil, cons}
 use Rattle.sq_system.specs.Sequents.{Item, SequentTree, trace, local, equiv}
 
@@ -72,7 +74,7 @@ message_equation no_two = no_equation
 message_equation (two a b) = of_messages a b
 
 unfoldable pub as_equation : TermTree → Equation
-as_equation (fun f is ts) = message_equation (as_binary 7 (fun f is ts))
+as_equation (fun f is ts) = message_equation (as_binary (function_number kind.equality) (fun f is ts))
 as_equation (ts_eq t s) = of_times t s
 as_equation (idx_eq i j) = of_indices i j
 as_equation _ = no_equation

@@ -149,7 +149,14 @@ pub fn open_new(alloc: Global, s: &Sequent, sort: Sort, body: &Term) -> Result<T
         (held (opened (made.new_variable sort (sequent_tree s.now)) (term_tree body.now))) }
 {
     let variable = new_variable(sort, s)?;
-    match open_with(alloc, body, &variable, MAX_NODES) {
+    open_at(alloc, &variable, body)
+}
+
+/// The body of a quantifier with this value, or TooLarge where no sequent may hold it.
+pub fn open_at(alloc: Global, value: &Arg, body: &Term) -> Result<Term, RuleFault>
+    ensures { Gives RuleFault.NoMemory term_tree result (held (opened (arg_tree value.now) (term_tree body.now))) }
+{
+    match open_with(alloc, body, value, MAX_NODES) {
         Ok(opened) => Ok(opened),
         Err(SizeFault::TooLarge) => Err(RuleFault::TooLarge),
         Err(SizeFault::NoMemory) => Err(RuleFault::NoMemory),

@@ -4,7 +4,7 @@ ghost use Rattle.sq_term.specs.Pure.{builtin_kind};
 ghost use Rattle.sq_term.specs.Symbols.{function_number};
 ghost use Rattle.sq_term.specs.Syntax.{fun, nil, cons};
 ghost use Rattle.sq_term.specs.View.{term_tree};
-ghost use Rattle.sq_sequent.specs.Premises.{equality, negation as negated};
+ghost use Rattle.sq_sequent.specs.Premises.{equality, implication as implied, equivalence as equivalent, negation as negated};
 
 use sq_base::{NoMemory, Seq};
 use sq_term::{Builtin, Term, copy};
@@ -58,4 +58,24 @@ pub fn equation(alloc: Global, u: &Term, v: &Term) -> Result<Term, NoMemory>
     let u = copy(alloc, u)?;
     let v = copy(alloc, v)?;
     binary(alloc, Builtin::Eq, u, v)
+}
+
+/// That a copy of one formula implies a copy of another.
+#[tactic(auto, using(sq_term::proofs::Views::tree_rules))]
+fn implication(alloc: Global, a: &Term, b: &Term) -> Result<Term, NoMemory>
+    ensures { IfOk result (λ t. term_tree t ≡ implied (term_tree a.now) (term_tree b.now)) }
+{
+    let a = copy(alloc, a)?;
+    let b = copy(alloc, b)?;
+    binary(alloc, Builtin::Implies, a, b)
+}
+
+/// That copies of these formulas imply each other.
+#[tactic(auto, using(sq_term::proofs::Views::tree_rules))]
+pub fn equivalence(alloc: Global, a: &Term, b: &Term) -> Result<Term, NoMemory>
+    ensures { IfOk result (λ t. term_tree t ≡ equivalent (term_tree a.now) (term_tree b.now)) }
+{
+    let there = implication(alloc, a, b)?;
+    let back = implication(alloc, b, a)?;
+    binary(alloc, Builtin::And, there, back)
 }

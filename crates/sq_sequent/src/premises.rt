@@ -15,7 +15,8 @@ use sq_system::{Both, Sequent};
 use sq_term::{Builtin, Term, copy, is_pure};
 use std::alloc::Global;
 
-fn copy_sorts(alloc: Global, sorts: &Seq<Sort>) -> Result<Seq<Sort>, NoMemory>
+/// Equal sorts, in their order.
+pub fn copy_sorts(alloc: Global, sorts: &Seq<Sort>) -> Result<Seq<Sort>, NoMemory>
     ensures { IfOk result (λ c. c ≡ sorts.now) }
 {
     Seq::from_slice(alloc, sorts.as_slice())
@@ -30,7 +31,8 @@ pub fn copy_terms(alloc: Global, terms: &[Term]) -> Result<Seq<Term>, NoMemory>
     Ok(out)
 }
 
-fn push_copies(alloc: Global, out: &mut Seq<Term>, terms: &[Term]) -> Result<(), NoMemory>
+/// Puts equal terms behind the list.
+pub fn push_copies(alloc: Global, out: &mut Seq<Term>, terms: &[Term]) -> Result<(), NoMemory>
     ensures { OnOk result (out.new ≡ out.old ++ terms.now) }
 {
     for term in terms {
@@ -51,7 +53,8 @@ fn copy_items(alloc: Global, items: &[Both]) -> Result<Seq<Both>, NoMemory>
     Ok(out)
 }
 
-fn copy_known(alloc: Global, known: &[Seq<Both>]) -> Result<Seq<Seq<Both>>, NoMemory>
+/// Equal lists of items, in their order.
+pub fn copy_known(alloc: Global, known: &[Seq<Both>]) -> Result<Seq<Seq<Both>>, NoMemory>
     ensures { IfOk result (λ c. c ≡ known.now) }
 {
     let mut out = Seq::new(alloc);

@@ -1,24 +1,28 @@
 // Which terms, timestamps and indices may stand in a sequent of a goal.
-ghost use Rattle.std.specs.Prelude.{◌≡◌, map, length, option_map};
+ghost use Rattle.std.specs.Prelude.{◌≡◌, [], IfOk, map, length, option_map};
 ghost use Rattle.std.specs.Option.{option_copied};
-ghost use Rattle.sq_term.specs.View.{term_tree};
+ghost use Rattle.sq_term.specs.Arguments.{arg_tree, an_index, a_time};
+ghost use Rattle.sq_term.specs.View.{ts_tree, term_tree};
 ghost use Rattle.sq_system.specs.Environments.{env_tree};
 ghost use Rattle.sq_system.specs.Sequents.{sequent_tree};
+ghost use Rattle.sq_system.specs.Typing.{is_index as is_the_index, is_timestamp as is_the_timestamp};
 ghost use Rattle.sq_ground.specs.Usable.{statement_at, system_of};
 ghost use Rattle.sq_sequent.specs.Premises.{vars_of as the_vars};
 ghost use Rattle.sq_sequent.specs.Scopes.{arities, scope_signature, statement_or_none};
 ghost use Rattle.sq_sequent.specs.Standing as spec;
 
-use crate::places::term_at;
-use crate::sorts::{Binders, Scope, has_sort};
-use crate::step::TermArg;
-use sq_base::Sort;
+use crate::places::{idx_at, term_at, ts_at};
+use crate::sorts::{Binders, Scope, has_sort, is_index, is_timestamp};
+use crate::step::{IdxArg, TermArg, TsArg, ValArg};
+use sq_base::{NoMemory, Sort};
 use sq_system::{Env, Sequent, Stmt, System, holds_diff};
-use sq_term::{Side, Term, is_pure};
+use sq_term::{Arg, Idx, Side, Term, Ts, copy_ts, is_pure};
 use sqlite_items::at;
+use std::alloc::Global;
 
+/// The statement with this number.
 #[tactic(auto, using(crate::proofs::Scoping::statement_rules))]
-fn statement(env: &Env, goal: u32) -> Option<&Stmt>
+pub fn statement(env: &Env, goal: u32) -> Option<&Stmt>
     ensures { statement_or_none (option_copied result) ≡ statement_at (env_tree env.now) goal }
 {
     at(env.stmts.as_slice(), goal as usize)
@@ -108,5 +112,94 @@ pub fn term_in<'a>(
             }
         }
         None => None,
+    }
+}
+
+fn is_time_of(env: &Env, goal: u32, s: &Sequent, t: &Ts) -> bool
+    ensures { result ≡ is_the_timestamp (spec.signature_for (env_tree env.now) goal (the_vars (sequent_tree s.now))) [] (ts_tree t.now) }
+{
+    let scope = scope(env, goal, s);
+    is_timestamp(t, &scope, &Binders::Outermost)
+}
+
+fn is_index_of(env: &Env, goal: u32, s: &Sequent, i: Idx) -> bool
+    ensures { result ≡ is_the_index (spec.signature_for (env_tree env.now) goal (the_vars (sequent_tree s.now))) [] i }
+{
+    let scope = scope(env, goal, s);
+    is_index(&scope, &Binders::Outermost, i)
+}
+
+/// The timestamp of an argument, where it may stand in the sequent.
+#[tactic(auto, unfolding(crate::specs::Standing::time_in))]
+pub fn time_in<'a>(env: &Env, goal: u32, s: &'a Sequent, arg: &'a TsArg) -> Option<&'a Ts>
+    ensures { option_map ts_tree (option_copied result) ≡ spec.time_in (env_tree env.now) goal (sequent_tree s.now) arg.now }
+{
+    match ts_at(s, arg) {
+        Some(t) => {
+            if is_time_of(env, goal, s, t) {
+                Some(t)
+            } else {
+                None
+            }
+        }
+        None => None,
+    }
+}
+
+/// The index of an argument, where it may stand in the sequent.
+#[tactic(auto, unfolding(crate::specs::Standing::index_in))]
+pub fn index_in(env: &Env, goal: u32, s: &Sequent, arg: IdxArg) -> Option<Idx>
+    ensures { result ≡ spec.index_in (env_tree env.now) goal (sequent_tree s.now) arg }
+{
+    match idx_at(s, arg) {
+        Some(i) => {
+            if is_index_of(env, goal, s, i) {
+                Some(i)
+            } else {
+                None
+            }
+        }
+        None => None,
+    }
+}
+
+fn as_index(found: Option<Idx>) -> Option<Arg>
+    ensures { option_map arg_tree result ≡ option_map an_index found }
+{
+    match found {
+        Some(i) => Some(Arg::Index(i)),
+        None => None,
+    }
+}
+
+fn as_time(alloc: Global, found: Option<&Ts>) -> Result<Option<Arg>, NoMemory>
+    ensures { IfOk result (λ v. option_map arg_tree v ≡ option_map a_time (option_map ts_tree (option_copied found.entry))) }
+{
+    match found {
+        Some(t) => {
+            let t = copy_ts(alloc, t)?;
+            Ok(Some(Arg::Time(t)))
+        }
+        None => Ok(None),
+    }
+}
+
+/// The value of an argument for a binder of this sort, where it has that sort and may stand in the
+/// sequent.
+#[tactic(auto, unfolding(crate::specs::Standing::value_in))]
+pub fn value_in(
+    alloc: Global,
+    env: &Env,
+    goal: u32,
+    s: &Sequent,
+    sort: Sort,
+    arg: &ValArg,
+) -> Result<Option<Arg>, NoMemory>
+    ensures { IfOk result (λ v. option_map arg_tree v ≡ spec.value_in (env_tree env.now) goal (sequent_tree s.now) sort arg.now) }
+{
+    match (sort, arg) {
+        (Sort::Index, ValArg::Index(arg)) => Ok(as_index(index_in(env, goal, s, *arg))),
+        (Sort::Timestamp, ValArg::Time(arg)) => as_time(alloc, time_in(env, goal, s, arg)),
+        _ => Ok(None),
     }
 }

@@ -94,8 +94,9 @@ pub fn binary_in<'a>(function: u32, t: Option<&'a Term>) -> Option<(&'a Term, &'
     }
 }
 
+/// The argument, where there is one.
 #[tactic(auto, using(crate::proofs::Args::one_of_rules))]
-fn only(args: &[Term]) -> Option<&Term>
+pub fn only(args: &[Term]) -> Option<&Term>
     ensures { option_map term_tree (option_copied result) ≡ one_of (term_trees args.now) }
 {
     match args {

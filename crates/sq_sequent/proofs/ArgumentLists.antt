@@ -1,0 +1,141 @@
+-- Applications of one function, and their arguments one after the other.
+use Rattle.std.proofs.Common.{◌≡◌, ◌≢◌, ◌==◌, ◌&&◌, ℕ, suc, ◌+◌, ◌<◌, refl, sym, ap, ◌∙◌, List, [], ◌∷◌, ◌++◌, length, drop, get_or, Option, Some, None, Bool, true, false, cond, add-one}
+use Rattle.std.proofs.Math.Seq.{drop-cons}
+use Rattle.std.specs.Cmp.Lexicographic.{pointwise, pointwise_decides}
+use Rattle.std.proofs.lemmas.Bool.Decides.{Decides-eqb}
+use Rattle.sq_term.specs.declared.term.Idx.{Idx}
+use Rattle.sq_term.specs.declared.term.Term.{Term}
+use Rattle.sq_term.specs.declared.term.Term.TheVariants as tm
+use Rattle.sq_term.specs.Signatures.{takes_boolean}
+use Rattle.sq_term.specs.Syntax.{TermTree, fun, TermTrees}
+use Rattle.sq_term.specs.TsEquality.{is_same_idx, is_same_idx-decides}
+use Rattle.sq_term.specs.View.{term_tree, term_trees}
+use Rattle.sq_term.proofs.BoolTests.{and_split, and_both}
+use Rattle.sq_term.proofs.Views.{term_tree-Fun, open_rules}
+use Rattle.sq_system.specs.declared.sequent.Sequent.{Sequent}
+use Rattle.sq_system.specs.Sequents.{SequentTree, sequent_tree}
+use Rattle.sq_system.specs.Typing.{count_terms}
+use Rattle.sq_sequent.specs.Premises.{asking}
+use Rattle.sq_sequent.specs.Logic.{sequent_trees, asked_alike, arguments_asked, applications_row}
+use Rattle.sq_sequent.proofs.Sorting.{count_terms-trees}
+
+trees-push : (xs : List Sequent) (x : Sequent) (ys : List SequentTree) → sequent_trees (xs ++ x ∷ []) ++ ys ≡ sequent_trees xs ++ (sequent_tree x ∷ ys)
+trees-push [] x ys = refl
+trees-push (z ∷ xs) x ys = ap (λ t. sequent_tree z ∷ t) (trees-push xs x ys)
+
+-- the rest, from item k on
+rest_is : (terms : List Term) (k : ℕ) (t : Term) → k < length terms → t ≡ get_or terms k t → drop k terms ≡ t ∷ drop (suc k) terms
+rest_is terms k t h e = drop-cons terms k t h ∙ ap (λ x. x ∷ drop (suc k) terms) (sym e)
+
+-- one more premise
+pub argument-next : (s : SequentTree) (f k : ℕ) (us vs : List Term) (u v : Term) (out out' : List Sequent) (p : Sequent) (r : List SequentTree)
+    → k < length us → k < length vs → u ≡ get_or us k u → v ≡ get_or vs k v
+    → sequent_tree p ≡ asking s (asked_alike (takes_boolean f k) (term_tree u) (term_tree v)) → out' ≡ out ++ p ∷ []
+    → sequent_trees out ++ arguments_asked s f k (term_trees (drop k us)) (term_trees (drop k vs)) ≡ r
+    → sequent_trees out' ++ arguments_asked s f (k + 1) (term_trees (drop (k + 1) us)) (term_trees (drop (k + 1) vs)) ≡ r
+argument-next s f k us vs u v out out' p r h h' e e' q o inv =
+    let rest : List SequentTree = arguments_asked s f (suc k) (term_trees (drop (suc k) us)) (term_trees (drop (suc k) vs)) in
+    rw add-one
+    (ap (λ x. sequent_trees x ++ rest) o
+    ∙ (trees-push out p rest
+    ∙ (ap (λ x. sequent_trees out ++ (x ∷ rest)) q
+    ∙ (ap (λ x. sequent_trees out ++ arguments_asked s f k (term_trees x) (term_trees (v ∷ drop (suc k) vs))) (sym (rest_is us k u h e))
+    ∙ (ap (λ x. sequent_trees out ++ arguments_asked s f k (term_trees (drop k us)) (term_trees x)) (sym (rest_is vs k v h' e')) ∙ inv)))))
+
+pub ruleset argument_rules = (argument-next)
+
+-- the same function, indices and count of arguments, and others
+same_number : (m n : ℕ) → m ≡ n → (m == n) ≡ true
+same_number m n e = (Decides-eqb m n).1 e
+
+other_number : (m n : ℕ) → m ≢ n → (m == n) ≡ false
+other_number m n e = go (m == n) refl
+  where
+    go : (b : Bool) → (m == n) ≡ b → b ≡ false
+    go true h = absurd (e ((Decides-eqb m n).0 h))
+    go false h = refl
+
+other_indices : (is js : List Idx) → is ≢ js → pointwise is_same_idx is js ≡ false
+other_indices is js e = go (pointwise is_same_idx is js) refl
+  where
+    go : (b : Bool) → pointwise is_same_idx is js ≡ b → b ≡ false
+    go true h = absurd (e ((pointwise_decides is_same_idx-decides is js).0 h))
+    go false h = refl
+
+abbrev row_where : Bool → List SequentTree → Option (List SequentTree)
+row_where b ps = cond b (Some ps) None
+
+no_second : (a b : Bool) → b ≡ false → (a && b) ≡ false
+no_second true b e = e
+no_second false b e = refl
+
+pub applications-same : (s : SequentTree) (f g : ℕ) (is js : List Idx) (us vs : List Term) → f ≡ g → is ≡ js → length us ≡ length vs
+    → applications_row s (term_tree (tm.Fun f is us)) (term_tree (tm.Fun g js vs)) ≡ Some (arguments_asked s f 0 (term_trees us) (term_trees vs))
+unfolding applications_row
+applications-same s f g is js us vs e i n =
+    rw (term_tree-Fun f is us, term_tree-Fun g js vs)
+    (ap (λ b. row_where b (arguments_asked s f 0 (term_trees us) (term_trees vs)))
+    (and_both (f == g) _ (same_number f g e)
+    (and_both (pointwise is_same_idx is js) _ ((pointwise_decides is_same_idx-decides is js).1 i)
+    (same_number (count_terms (term_trees us)) (count_terms (term_trees vs)) (count_terms-trees us ∙ (n ∙ sym (count_terms-trees vs)))))))
+
+pub applications-function : (s : SequentTree) (f g : ℕ) (is js : List Idx) (us vs : List Term) → f ≢ g → applications_row s (term_tree (tm.Fun f is us)) (term_tree (tm.Fun g js vs)) ≡ None
+unfolding applications_row
+applications-function s f g is js us vs e =
+    rw (term_tree-Fun f is us, term_tree-Fun g js vs)
+    (ap (λ b. row_where (b && (pointwise is_same_idx is js && (count_terms (term_trees us) == count_terms (term_trees vs)))) (arguments_asked s f 0 (term_trees us) (term_trees vs))) (other_number f g e))
+
+pub applications-indices : (s : SequentTree) (f g : ℕ) (is js : List Idx) (us vs : List Term) → is ≢ js → applications_row s (term_tree (tm.Fun f is us)) (term_tree (tm.Fun g js vs)) ≡ None
+unfolding applications_row
+applications-indices s f g is js us vs e =
+    rw (term_tree-Fun f is us, term_tree-Fun g js vs)
+    (ap (λ b. row_where b (arguments_asked s f 0 (term_trees us) (term_trees vs)))
+    (no_second (f == g) _ (ap (λ b. b && (count_terms (term_trees us) == count_terms (term_trees vs))) (other_indices is js e))))
+
+pub applications-count : (s : SequentTree) (f g : ℕ) (is js : List Idx) (us vs : List Term) → length us ≢ length vs → applications_row s (term_tree (tm.Fun f is us)) (term_tree (tm.Fun g js vs)) ≡ None
+unfolding applications_row
+applications-count s f g is js us vs e =
+    rw (term_tree-Fun f is us, term_tree-Fun g js vs)
+    (ap (λ b. row_where b (arguments_asked s f 0 (term_trees us) (term_trees vs)))
+    (no_second (f == g) _
+    (no_second (pointwise is_same_idx is js) _
+    (other_number (count_terms (term_trees us)) (count_terms (term_trees vs)) (λ i. e (sym (count_terms-trees us) ∙ (i ∙ count_terms-trees vs)))))))
+
+pub ruleset application_rules = (open_rules, applications-same, applications-function, applications-indices, applications-count)
+
+-- what the row says of two terms that have premises
+pub record AsksArguments (s : SequentTree) (t u : TermTree) (ps : List SequentTree) : Type 0 where
+  pub function : ℕ
+  pub indices : List Idx
+  pub first : TermTrees
+  pub second : TermTrees
+  pub left_is : t ≡ fun function indices first
+  pub right_is : u ≡ fun function indices second
+  pub as_many : count_terms first ≡ count_terms second
+  pub asked : ps ≡ arguments_asked s function 0 first second
+
+same-applications : (s : SequentTree) (f g : ℕ) (is js : List Idx) (us vs : TermTrees) (ps : List SequentTree) (b : Bool)
+    → ((f == g) && (pointwise is_same_idx is js && (count_terms us == count_terms vs))) ≡ b → row_where b (arguments_asked s f 0 us vs) ≡ Some ps
+    → AsksArguments s (fun f is us) (fun g js vs) ps
+same-applications s f g is js us vs ps false h e = absurd (cc)
+same-applications s f g is js us vs ps true h e =
+    let p = and_split (f == g) _ h in
+    let q = and_split (pointwise is_same_idx is js) _ p.1 in
+    let x : f ≡ g = (Decides-eqb f g).0 p.0 in
+    let y : is ≡ js = (pointwise_decides is_same_idx-decides is js).0 q.0 in
+    let z : ps ≡ arguments_asked s f 0 us vs = cc in
+    record {
+      function = f;
+      indices = is;
+      first = us;
+      second = vs;
+      left_is = refl;
+      right_is = sym (ap (λ n. fun n is vs) x ∙ ap (λ ks. fun g ks vs) y);
+      as_many = (Decides-eqb (count_terms us) (count_terms vs)).0 q.1;
+      asked = z;
+    }
+
+pub applications-are : (s : SequentTree) (t u : TermTree) (ps : List SequentTree) → applications_row s t u ≡ Some ps → AsksArguments s t u ps
+unfolding applications_row
+applications-are s (fun f is us) (fun g js vs) ps e = same-applications s f g is js us vs ps _ refl e
+applications-are s _ _ ps e = absurd (cc)

@@ -1,0 +1,93 @@
+// What is asked of the arguments of one function on both sides of an equation.
+ghost use Rattle.std.specs.Prelude.{◌≡◌, ◌↔◌, IfOk, IsTrue, length};
+ghost use Rattle.sq_base.specs.Gives.{Gives};
+ghost use Rattle.sq_term.specs.Signatures.{takes_boolean as spec_takes_boolean};
+ghost use Rattle.sq_term.specs.View.{term_tree, term_trees};
+ghost use Rattle.sq_system.specs.Sequents.{sequent_tree};
+ghost use Rattle.sq_sequent.specs.Premises.{asking as the_asking};
+ghost use Rattle.sq_sequent.specs.Logic.{sequent_trees, judged, asked_alike, arguments_asked as the_arguments, applications_row};
+
+use crate::fault::RuleFault;
+use crate::formulas::{equation, equivalence};
+use crate::limits::judge;
+use crate::premises::asking;
+use crate::sorts::takes_boolean;
+use sq_base::{NoMemory, Seq};
+use sq_system::Sequent;
+use sq_term::{Idx, Term};
+use std::alloc::Global;
+
+fn alike(alloc: Global, boolean: bool, u: &Term, v: &Term) -> Result<Term, NoMemory>
+    ensures { IfOk result (λ t. term_tree t ≡ asked_alike boolean (term_tree u.now) (term_tree v.now)) }
+{
+    if boolean {
+        equivalence(alloc, u, v)
+    } else {
+        equation(alloc, u, v)
+    }
+}
+
+fn asking_alike(
+    alloc: Global,
+    s: &Sequent,
+    boolean: bool,
+    u: &Term,
+    v: &Term,
+) -> Result<Sequent, NoMemory>
+    ensures { IfOk result
+        (λ p. sequent_tree p ≡ the_asking (sequent_tree s.now) (asked_alike boolean (term_tree u.now) (term_tree v.now))) }
+{
+    let asked = alike(alloc, boolean, u, v)?;
+    asking(alloc, s, asked)
+}
+
+#[tactic(auto, using(crate::proofs::ArgumentLists::argument_rules))]
+fn arguments_asked(
+    alloc: Global,
+    s: &Sequent,
+    function: u32,
+    us: &[Term],
+    vs: &[Term],
+) -> Result<Seq<Sequent>, NoMemory>
+    requires { length us.now ≡ length vs.now }
+    ensures { IfOk result
+        (λ ps. sequent_trees ps ≡ the_arguments (sequent_tree s.now) function 0 (term_trees us.now) (term_trees vs.now)) }
+{
+    let mut premises = Seq::new(alloc);
+    for k in 0..us.len() {
+        premises.push(asking_alike(alloc, s, takes_boolean(function, k), &us[k], &vs[k])?)?;
+    }
+    Ok(premises)
+}
+
+fn same_indices(is: &[Idx], js: &[Idx]) -> bool
+    ensures { IsTrue result ↔ (is.now ≡ js.now) }
+{
+    is == js
+}
+
+/// Of two applications of one function, with the same indices: each two arguments are alike.
+#[tactic(auto, using(crate::proofs::ArgumentLists::application_rules), unfolding(crate::specs::Logic::applications_row))]
+pub fn alike_arguments(
+    alloc: Global,
+    s: &Sequent,
+    left: &Term,
+    right: &Term,
+) -> Result<Seq<Sequent>, RuleFault>
+    ensures { Gives RuleFault.NoMemory sequent_trees result
+        (judged (applications_row (sequent_tree s.now) (term_tree left.now) (term_tree right.now))) }
+{
+    match left {
+        Term::Fun(f, is, us) => match right {
+            Term::Fun(g, js, vs) => {
+                if *f == *g && same_indices(is.as_slice(), js.as_slice()) && us.len() == vs.len() {
+                    judge(arguments_asked(alloc, s, *f, us.as_slice(), vs.as_slice())?)
+                } else {
+                    Err(RuleFault::Shape)
+                }
+            }
+            _ => Err(RuleFault::Shape),
+        },
+        _ => Err(RuleFault::Shape),
+    }
+}
