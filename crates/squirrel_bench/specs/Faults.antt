@@ -5,6 +5,8 @@ use Rattle.sq_sym.specs.declared.symbol.SymFault.{SymFault}
 use Rattle.sq_sym.specs.declared.symbol.SymFault.TheVariants as table
 use Rattle.sq_resolve.specs.declared.fault.ResolveFault.{ResolveFault}
 use Rattle.sq_resolve.specs.declared.fault.ResolveFault.TheVariants as formula
+use Rattle.sq_sequent.specs.declared.fault.RuleFault.{RuleFault}
+use Rattle.sq_sequent.specs.declared.fault.RuleFault.TheVariants as rule
 use Rattle.squirrel_bench.specs.declared.fault.Fault.{Fault}
 use Rattle.squirrel_bench.specs.declared.fault.Fault.TheVariants.{Usage, Limit, NoMemory}
 
@@ -20,3 +22,8 @@ abbrev pub fault_of_formula : ResolveFault → Fault
 fault_of_formula formula.TooLarge = Limit
 fault_of_formula formula.NoMemory = NoMemory
 fault_of_formula e = Usage
+
+abbrev pub fault_of_step : RuleFault → Fault
+fault_of_step rule.TooLarge = Limit
+fault_of_step rule.NoMemory = NoMemory
+fault_of_step e = Usage

@@ -1,6 +1,7 @@
 // Why a run stops.
 use sq_base::NoMemory;
 use sq_resolve::ResolveFault;
+use sq_sequent::RuleFault;
 use sq_sym::SymFault;
 use sq_term::SizeFault;
 use std::alloc::{AllocError, AllocFailed};
@@ -90,6 +91,21 @@ impl From<ResolveFault> for Fault {
             | ResolveFault::Arity(_, _, _)
             | ResolveFault::SortClash(_, _)
             | ResolveFault::MessageQuantifier => Fault::Usage,
+        }
+    }
+}
+
+impl From<RuleFault> for Fault {
+    ghost use Rattle.std.specs.Prelude.{◌≡◌};
+    ghost use Rattle.squirrel_bench.specs.Faults.{fault_of_step};
+
+    ghost from_gives = { λ fault e. e ≡ fault_of_step fault };
+
+    fn from(fault: RuleFault) -> Self {
+        match fault {
+            RuleFault::TooLarge => Fault::Limit,
+            RuleFault::NoMemory => Fault::NoMemory,
+            RuleFault::Shape | RuleFault::HasSchema | RuleFault::BadOccurrence(_) => Fault::Usage,
         }
     }
 }

@@ -5,6 +5,7 @@
 mod fault;
 mod reading;
 mod resolution;
+mod rows;
 mod substitution;
 
 use fault::Fault;
@@ -40,6 +41,7 @@ fn turned(alloc: Global, words: &[String]) -> Result<u32, Fault> {
         "lexing" => reading::lexed(alloc, word.as_str(), turns),
         "parsing" => reading::parsed(alloc, word.as_str(), turns),
         "resolution" => resolution::turned(alloc, word.as_str(), turns),
+        "rows" => rows::turned(alloc, word.as_str(), turns),
         _ => Err(Fault::Usage),
     }
 }

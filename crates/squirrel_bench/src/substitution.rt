@@ -43,18 +43,18 @@ fn copied(alloc: Global, body: &Term, turns: u32) -> Result<u32, Fault> {
 
 // A body whose outermost variable stands at every leaf, below a binder of its own.
 fn body(alloc: Global) -> Result<Term, NoMemory> {
-    let inner = tree(alloc, LEAVES)?;
+    let inner = tree(alloc, LEAVES, &[Idx::Bound(0), Idx::Bound(1)])?;
     Ok(Term::Forall(Sort::Index, Boxed::new(alloc, inner)?))
 }
 
-// A balanced tree of conjunctions: four nodes for each leaf but for one.
-fn tree(alloc: Global, leaves: u32) -> Result<Term, NoMemory> {
+/// A balanced tree of conjunctions, with a name of these indices at each leaf: of two indices, four
+/// nodes for each leaf but for one.
+pub fn tree(alloc: Global, leaves: u32, indices: &[Idx]) -> Result<Term, NoMemory> {
     if leaves < 2 {
-        let indices = [Idx::Bound(0), Idx::Bound(1)];
-        return Ok(Term::Name(7, Seq::from_slice(alloc, &indices)?));
+        return Ok(Term::Name(7, Seq::from_slice(alloc, indices)?));
     }
     let mut parts = Items::new(alloc);
-    parts.push(tree(alloc, leaves / 2)?)?;
-    parts.push(tree(alloc, leaves - leaves / 2)?)?;
+    parts.push(tree(alloc, leaves / 2, indices)?)?;
+    parts.push(tree(alloc, leaves - leaves / 2, indices)?)?;
     Ok(Term::Fun(Builtin::And.number(), Seq::new(alloc), parts))
 }
