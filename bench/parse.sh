@@ -4,18 +4,12 @@
 # the least of five runs, in milliseconds.
 set -eu
 program=$("$(dirname "$0")/built.sh")
-TIMEFORMAT='%U %S'
-
-least() { # SUBJECT WORD KIB
-  for _ in 1 2 3 4 5; do
-    { time "$program" "$1" "$2" "$3" > /dev/null; } 2>&1
-  done | awk '{ spent = $1 + $2; if (NR == 1 || spent < best) best = spent } END { print best }'
-}
+. "$(dirname "$0")/least.sh"
 
 for subject in lexing parsing; do
   for word in nested conjunctions tokens; do
-    small=$(least "$subject" "$word" 128)
-    large=$(least "$subject" "$word" 1024)
+    small=$(least 5 "$program" "$subject" "$word" 128)
+    large=$(least 5 "$program" "$subject" "$word" 1024)
     awk -v n="$subject $word" -v s="$small" -v l="$large" 'BEGIN {
       printf "%s: 128 KiB %.0f ms, 1 MiB %.0f ms, ratio %.1f\n", n, s * 1000, l * 1000, (s > 0 ? l / s : 0)
     }'

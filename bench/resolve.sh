@@ -6,7 +6,7 @@ set -eu
 program=$("$(dirname "$0")/built.sh")
 few=${1:-2500}
 many=${2:-20000}
-TIMEFORMAT='%U %S'
+. "$(dirname "$0")/least.sh"
 
 ten() { # WORD COUNT
   for _ in 1 2 3 4 5 6 7 8 9 10; do
@@ -14,15 +14,14 @@ ten() { # WORD COUNT
   done
 }
 
-least() { # WORD COUNT
-  for _ in 1 2 3 4 5; do
-    { time ten "$1" "$2"; } 2>&1
-  done | awk '{ spent = $1 + $2; if (NR == 1 || spent < best) best = spent } END { print best * 100 }'
+# In milliseconds for one run.
+timed() { # WORD COUNT
+  least 5 ten "$1" "$2" | awk '{ print $1 * 100 }'
 }
 
-idle=$(least nothing "$few")
-short=$(least names "$few")
-long=$(least names "$many")
+idle=$(timed nothing "$few")
+short=$(timed names "$few")
+long=$(timed names "$many")
 awk -v i="$idle" -v s="$short" -v l="$long" -v f="$few" -v m="$many" 'BEGIN {
   ratio = (s > i) ? (l - i) / (s - i) : 0
   printf "%d declarations: %.2f ms\n%d declarations: %.2f ms\nratio: %.2f\n", f, s - i, m, l - i, ratio

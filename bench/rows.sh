@@ -6,18 +6,16 @@
 set -eu
 program=$("$(dirname "$0")/built.sh")
 turns=${1:-1000}
-TIMEFORMAT='%U %S'
+. "$(dirname "$0")/least.sh"
 
-least() { # WORD
-  for _ in 1 2 3; do
-    { time "$program" rows "$1" "$turns" > /dev/null; } 2>&1
-  done | awk '{ spent = $1 + $2; if (NR == 1 || spent < best) best = spent } END { print best }'
+timed() { # WORD
+  least 3 "$program" rows "$1" "$turns"
 }
 
-built=$(least nothing)
-copied=$(least copy)
-taken=$(least noti)
-rewritten=$(least rew)
+built=$(timed nothing)
+copied=$(timed copy)
+taken=$(timed noti)
+rewritten=$(timed rew)
 awk -v b="$built" -v c="$copied" -v t="$taken" -v r="$rewritten" -v n="$turns" 'BEGIN {
   copy = c - b; noti = (t - b) / copy; rew = (r - b) / copy
   printf "copy: %.3f ms\nnoti: %.3f ms, ratio %.2f\nrew: %.3f ms, ratio %.2f\n", copy * 1e3 / n, (t - b) * 1e3 / n, noti, (r - b) * 1e3 / n, rew

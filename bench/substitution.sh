@@ -6,17 +6,15 @@ set -eu
 program=$("$(dirname "$0")/built.sh")
 turns=${1:-1000}
 nodes=60000
-TIMEFORMAT='%U %S'
+. "$(dirname "$0")/least.sh"
 
-least() { # WORD
-  for _ in 1 2 3; do
-    { time "$program" substitution "$1" "$turns" > /dev/null; } 2>&1
-  done | awk '{ spent = $1 + $2; if (NR == 1 || spent < best) best = spent } END { print best }'
+timed() { # WORD
+  least 3 "$program" substitution "$1" "$turns"
 }
 
-built=$(least nothing)
-opened=$(least open)
-copied=$(least copy)
+built=$(timed nothing)
+opened=$(timed open)
+copied=$(timed copy)
 awk -v b="$built" -v o="$opened" -v c="$copied" -v n="$((turns * nodes))" 'BEGIN {
   printf "open: %.1f ns per node\ncopy: %.1f ns per node\nratio: %.2f\n", (o - b) * 1e9 / n, (c - b) * 1e9 / n, (o - b) / (c - b)
 }'
