@@ -3,7 +3,8 @@ ghost use Rattle.std.specs.Prelude.{◌≡◌, ◌==◌, suc, IfOk, MatchOption,
 ghost use Rattle.std.specs.Option.{option_copied};
 ghost use Rattle.sq_term.specs.Signatures as signatures;
 ghost use Rattle.sq_term.specs.Signatures.{function_role};
-ghost use Rattle.sq_term.specs.Symbols.{kind_of};
+ghost use Rattle.sq_term.specs.Symbols as kind;
+ghost use Rattle.sq_term.specs.Symbols.{kind_of, function_number};
 ghost use Rattle.sq_term.specs.View.{term_tree, term_trees};
 ghost use Rattle.sq_subst.specs.Room.{fits as fits_in};
 ghost use Rattle.sq_system.specs.Environments.{env_tree};
@@ -90,14 +91,14 @@ fn conditional_fact(alloc: Global, t: &Term, args: &[Term]) -> Result<Option<Ter
 // ---- the parts of a pair
 
 fn pair_in(args: &[Term]) -> Option<(&Term, &Term)>
-    ensures { let seen = view.binary_in 9 (one_of (term_trees args.now)) in
+    ensures { let seen = view.binary_in (function_number kind.pairing) (one_of (term_trees args.now)) in
         MatchOption result (seen ≡ no_two) (λ p. seen ≡ two (term_tree p.0.now) (term_tree p.1.now)) }
 {
     binary_in(Builtin::Pair.number(), only(args))
 }
 
 fn first_fact(alloc: Global, t: &Term, args: &[Term]) -> Result<Option<Term>, NoMemory>
-    ensures { IfOk result (λ f. option_map term_tree f ≡ spec.first_fact (term_tree t.now) (view.binary_in 9 (one_of (term_trees args.now)))) }
+    ensures { IfOk result (λ f. option_map term_tree f ≡ spec.first_fact (term_tree t.now) (view.binary_in (function_number kind.pairing) (one_of (term_trees args.now)))) }
 {
     match pair_in(args) {
         Some((u, _)) => Ok(Some(equation(alloc, t, u)?)),
@@ -106,7 +107,7 @@ fn first_fact(alloc: Global, t: &Term, args: &[Term]) -> Result<Option<Term>, No
 }
 
 fn second_fact(alloc: Global, t: &Term, args: &[Term]) -> Result<Option<Term>, NoMemory>
-    ensures { IfOk result (λ f. option_map term_tree f ≡ spec.second_fact (term_tree t.now) (view.binary_in 9 (one_of (term_trees args.now)))) }
+    ensures { IfOk result (λ f. option_map term_tree f ≡ spec.second_fact (term_tree t.now) (view.binary_in (function_number kind.pairing) (one_of (term_trees args.now)))) }
 {
     match pair_in(args) {
         Some((_, v)) => Ok(Some(equation(alloc, t, v)?)),

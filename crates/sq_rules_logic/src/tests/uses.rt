@@ -1,9 +1,9 @@
 // The row that uses statements, in an environment that has some.
-ghost use Rattle.std.specs.Prelude.{◌≡◌, [], ◌∷◌, true, IfOk};
+ghost use Rattle.std.specs.Prelude.{◌≡◌, ◌<◌, [], ◌∷◌, true, IfOk};
 ghost use Rattle.sq_term.specs.declared.term.Side.TheVariants.{Both};
-ghost use Rattle.sq_term.specs.Syntax.{schema};
+ghost use Rattle.sq_term.specs.Syntax.{schema, happens, init};
 ghost use Rattle.sq_term.specs.View.{term_tree};
-ghost use Rattle.sq_system.specs.declared.env.StmtKind.TheVariants.{Equiv};
+ghost use Rattle.sq_system.specs.declared.env.StmtKind.TheVariants.{Axiom, Equiv};
 ghost use Rattle.sq_system.specs.Environments.{env_tree, without_declarations};
 ghost use Rattle.sq_system.specs.Sequents.{local, equiv};
 ghost use Rattle.sq_system.specs.Statements.{stmt_tree};
@@ -13,7 +13,8 @@ ghost use Rattle.sq_sequent.specs.Uses.{states_a_formula};
 use crate::premises;
 use sq_base::{NoMemory, Seq, Text};
 use sq_sequent::{Env, Sequent, Step, Stmt, StmtKind, TermArg, constant, equation, hyps_of};
-use sq_term::{Builtin, Side, Term};
+use sq_system::System;
+use sq_term::{Builtin, Side, Term, Ts};
 use std::alloc::Global;
 
 fn one_name(alloc: Global) -> Result<Seq<Text>, NoMemory>
@@ -32,10 +33,10 @@ fn of_itself(alloc: Global) -> Result<Term, NoMemory>
     equation(alloc, &Term::Schema(0), &Term::Schema(0))
 }
 
-fn stated(alloc: Global, kind: StmtKind) -> Result<Stmt, NoMemory>
+fn stated(alloc: Global, kind: StmtKind, system: u32) -> Result<Stmt, NoMemory>
     ensures { IfOk result (λ st. stmt_tree st ≡ record {
       kind = kind;
-      system = 0;
+      system = system;
       schemas = [] ∷ [];
       vars = [];
       start = local Both [] [] (equality (schema 0) (schema 0));
@@ -43,7 +44,7 @@ fn stated(alloc: Global, kind: StmtKind) -> Result<Stmt, NoMemory>
 {
     Ok(Stmt {
         kind,
-        system: 0,
+        system,
         schemas: one_name(alloc)?,
         vars: Seq::new(alloc),
         start: Sequent::Local {
@@ -72,35 +73,83 @@ fn equivalence(alloc: Global) -> Stmt
     }
 }
 
-// Adds a statement of this kind, of schema variable x.
-#[tactic(auto, using(crate::proofs::UseTests::statement_rules))]
-fn add(alloc: Global, env: &mut Env, kind: StmtKind) -> Result<(), NoMemory>
-    requires formula { states_a_formula kind ≡ true }
-    requires bare { env_tree env.old ≡ record without_declarations { stmts = (env_tree env.old).stmts } }
-    ensures { env_tree env.new ≡ record without_declarations { stmts = (env_tree env.new).stmts } }
+// The axiom of system 1 that init happens.
+fn of_time(alloc: Global) -> Stmt
+    ensures { stmt_tree result ≡ record { kind = Axiom; system = 1; schemas = []; vars = []; start = local Both [] [] (happens init) } }
 {
-    let stmt = stated(alloc, kind)?;
+    Stmt {
+        kind: StmtKind::Axiom,
+        system: 1,
+        schemas: Seq::new(alloc),
+        vars: Seq::new(alloc),
+        start: Sequent::Local {
+            side: Side::Both,
+            vars: Seq::new(alloc),
+            hyps: Seq::new(alloc),
+            goal: Term::Happens(Ts::Init),
+        },
+    }
+}
+
+// Nothing is declared but a second system without actions.
+fn two_systems(alloc: Global) -> Result<Env, NoMemory>
+    ensures { IfOk result (λ env. env_tree env ≡ record without_declarations { systems = [] ∷ [] ∷ [] }) }
+{
+    let mut env = Env::new(alloc)?;
+    env.add_system(System::empty(alloc))?;
+    Ok(env)
+}
+
+// Adds a statement of this kind and system, of schema variable x.
+#[tactic(auto, using(crate::proofs::UseTests::statement_rules))]
+fn add(alloc: Global, env: &mut Env, kind: StmtKind, system: u32) -> Result<(), NoMemory>
+    requires formula { states_a_formula kind ≡ true }
+    requires there { system < 2 }
+    requires two { env_tree env.old ≡ record without_declarations { systems = [] ∷ [] ∷ []; stmts = (env_tree env.old).stmts } }
+    ensures { env_tree env.new ≡ record without_declarations { systems = [] ∷ [] ∷ []; stmts = (env_tree env.new).stmts } }
+{
+    let stmt = stated(alloc, kind, system)?;
     env.add_statement(stmt)?;
     Ok(())
 }
 
 #[tactic(auto, using(crate::proofs::UseTests::statement_rules))]
 fn add_equivalence(alloc: Global, env: &mut Env) -> Result<(), NoMemory>
-    requires bare { env_tree env.old ≡ record without_declarations { stmts = (env_tree env.old).stmts } }
-    ensures { env_tree env.new ≡ record without_declarations { stmts = (env_tree env.new).stmts } }
+    requires two { env_tree env.old ≡ record without_declarations { systems = [] ∷ [] ∷ []; stmts = (env_tree env.old).stmts } }
+    ensures { env_tree env.new ≡ record without_declarations { systems = [] ∷ [] ∷ []; stmts = (env_tree env.new).stmts } }
 {
     env.add_statement(equivalence(alloc))?;
     Ok(())
 }
 
-// An axiom, a lemma, an equivalence, a lemma and an axiom.
+#[tactic(auto, using(crate::proofs::UseTests::statement_rules))]
+fn add_of_time(alloc: Global, env: &mut Env) -> Result<(), NoMemory>
+    requires two { env_tree env.old ≡ record without_declarations { systems = [] ∷ [] ∷ []; stmts = (env_tree env.old).stmts } }
+    ensures { env_tree env.new ≡ record without_declarations { systems = [] ∷ [] ∷ []; stmts = (env_tree env.new).stmts } }
+{
+    env.add_statement(of_time(alloc))?;
+    Ok(())
+}
+
+// Of system 1: an axiom that speaks of time, one that does not, and a lemma.
+fn add_of_another_system(alloc: Global, env: &mut Env) -> Result<(), NoMemory>
+    requires two { env_tree env.old ≡ record without_declarations { systems = [] ∷ [] ∷ []; stmts = (env_tree env.old).stmts } }
+    ensures { env_tree env.new ≡ record without_declarations { systems = [] ∷ [] ∷ []; stmts = (env_tree env.new).stmts } }
+{
+    add_of_time(alloc, env)?;
+    add(alloc, env, StmtKind::Axiom, 1)?;
+    add(alloc, env, StmtKind::Lemma, 1)
+}
+
+// An axiom, a lemma, an equivalence, three statements of another system, a lemma and an axiom.
 fn file(alloc: Global) -> Result<Env, NoMemory> {
-    let mut env = Env::new(alloc)?;
-    add(alloc, &mut env, StmtKind::Axiom)?;
-    add(alloc, &mut env, StmtKind::Lemma)?;
+    let mut env = two_systems(alloc)?;
+    add(alloc, &mut env, StmtKind::Axiom, 0)?;
+    add(alloc, &mut env, StmtKind::Lemma, 0)?;
     add_equivalence(alloc, &mut env)?;
-    add(alloc, &mut env, StmtKind::Lemma)?;
-    add(alloc, &mut env, StmtKind::Axiom)?;
+    add_of_another_system(alloc, &mut env)?;
+    add(alloc, &mut env, StmtKind::Lemma, 0)?;
+    add(alloc, &mut env, StmtKind::Axiom, 0)?;
     Ok(env)
 }
 
@@ -127,10 +176,10 @@ fn has_another_hypothesis(premises: &[Sequent]) -> bool {
     }
 }
 
-// Whether the step gives one more hypothesis to the proof of statement 3.
+// Whether the step gives one more hypothesis to the proof of statement 6.
 fn gives_one(alloc: Global, s: &Sequent, step: &Step) -> Result<bool, NoMemory> {
     let env = file(alloc)?;
-    match premises(alloc, step, s, &env, 3) {
+    match premises(alloc, step, s, &env, 6) {
         Ok(premises) => Ok(has_another_hypothesis(premises.as_slice())),
         Err(_) => Ok(false),
     }
@@ -164,15 +213,29 @@ fn earlier_statements_are_used(rt: HostRuntime) {
         uses(alloc, 2, Builtin::Empty, 0) == Ok(false),
         "an equivalence"
     );
-    assert!(rt; uses(alloc, 3, Builtin::Empty, 1) == Ok(false), "itself");
+    assert!(rt; uses(alloc, 6, Builtin::Empty, 1) == Ok(false), "itself");
     assert!(rt;
-        uses(alloc, 4, Builtin::Empty, 1) == Ok(false),
+        uses(alloc, 7, Builtin::Empty, 1) == Ok(false),
         "a later axiom"
     );
     assert!(rt;
-        uses(alloc, 5, Builtin::Empty, 1) == Ok(false),
+        uses(alloc, 8, Builtin::Empty, 1) == Ok(false),
         "no statement"
     );
+}
+
+#[test]
+fn another_system_gives_what_is_timeless(rt: HostRuntime) {
+    let alloc = rt.alloc();
+    assert!(rt;
+        uses(alloc, 3, Builtin::Empty, 0) == Ok(false),
+        "an axiom of time"
+    );
+    assert!(rt;
+        uses(alloc, 4, Builtin::Empty, 1) == Ok(true),
+        "a timeless axiom"
+    );
+    assert!(rt; uses(alloc, 5, Builtin::Empty, 1) == Ok(false), "a lemma");
 }
 
 #[test]
