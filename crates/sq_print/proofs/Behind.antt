@@ -11,7 +11,7 @@ use Rattle.sq_print.specs.Forms.{fits, layout_of, layout_of_two, layout_of_three
 use Rattle.sq_print.specs.Names.{Names, name_word, action_word, function_word, binder_name, bound_names}
 use Rattle.sq_print.specs.Printed.{macro_text, joined, call, placed, laid, by_layout, idx_text, idx_texts, ts_text, term_text, part_texts}
 use Rattle.sq_print.specs.Written as w
-use Rattle.sq_print.specs.Written.{opened, closed, ended, is_none, are_none, before, place, end, wrote_names, wrote_indices, wrote_call, wrote_ts, wrote_binder, first_before, wrote, wrote_parts, wrote_arguments}
+use Rattle.sq_print.specs.Written.{opened, closed, ended, is_none, are_none, before, place, end, wrote_names, wrote_indices, wrote_call, wrote_ts, wrote_binder, first_before, wrote, wrote_parts, wrote_arguments, wrote_branch}
 
 -- texts with something before the first and between the others
 abbrev pub spaced : List ℕ → List ℕ → List (List ℕ) → List ℕ
@@ -239,20 +239,14 @@ mutual
       ∙ one_more out first (term_text ns around t) (spaced (codes ",") (codes ",") (map (λ p. p.1) (part_texts ns around ts))))
 
 -- the steps in which a find is written
-pub find_steps : (ns : Names) (around inner mid last : List (List ℕ)) (n : ℕ) (t u v : TermTree) (out a b c d e f g h i j : List ℕ) (fu fu' fv fv' : Form)
-    → inner ≡ around ++ bound_names ns around n → mid ≡ inner → last ≡ around → fu ≡ form_of u → fu' ≡ form_of u → fv ≡ form_of v → fv' ≡ form_of v
+pub find_steps : (ns : Names) (around inner mid last : List (List ℕ)) (n : ℕ) (t u v : TermTree) (out a b c d e f : List ℕ)
+    → inner ≡ around ++ bound_names ns around n → mid ≡ inner → last ≡ around
     → a ≡ wrote_names [] (out ++ codes "find ") (bound_names ns around n) ++ codes " such that "
-    → b ≡ wrote ns inner a t → c ≡ b ++ codes " in " → d ≡ opened form.Term fu c → e ≡ wrote ns mid d u → f ≡ closed form.Term fu' e
-    → g ≡ f ++ codes " else " → h ≡ opened form.Term fv g → i ≡ wrote ns last h v → j ≡ closed form.Term fv' i
-    → j ≡ wrote ns around out (find n t u v)
-find_steps ns around inner mid last n t u v out a b c d e f g h i j fu fu' fv fv' in_is mid_is last_is u1 u2 v1 v2 ea eb ec ed ee ef eg eh ei ej =
-    let a' = ea in
+    → b ≡ wrote ns inner a t → c ≡ b ++ codes " in " → d ≡ wrote_branch ns mid c u → e ≡ d ++ codes " else " → f ≡ wrote_branch ns last e v
+    → f ≡ wrote ns around out (find n t u v)
+find_steps ns around inner mid last n t u v out a b c d e f in_is mid_is last_is ea eb ec ed ee ef =
     let b' : b ≡ wrote ns (around ++ bound_names ns around n) (wrote_names [] (out ++ codes "find ") (bound_names ns around n) ++ codes " such that ") t = eb ∙ (λ k. wrote ns (in_is k) (ea k) t) in
     let c' = ec ∙ ap (λ r. r ++ codes " in ") b' in
-    let d' = ed ∙ (λ k. opened form.Term (u1 k) (c' k)) in
-    let e' = ee ∙ (λ k. wrote ns ((mid_is ∙ in_is) k) (d' k) u) in
-    let f' = ef ∙ (λ k. closed form.Term (u2 k) (e' k)) in
-    let g' = eg ∙ ap (λ r. r ++ codes " else ") f' in
-    let h' = eh ∙ (λ k. opened form.Term (v1 k) (g' k)) in
-    let i' = ei ∙ (λ k. wrote ns (last_is k) (h' k) v) in
-    ej ∙ (λ k. closed form.Term (v2 k) (i' k))
+    let d' = ed ∙ (λ k. wrote_branch ns ((mid_is ∙ in_is) k) (c' k) u) in
+    let e' = ee ∙ ap (λ r. r ++ codes " else ") d' in
+    ef ∙ (λ k. wrote_branch ns (last_is k) (e' k) v)

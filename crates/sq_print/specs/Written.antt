@@ -112,3 +112,11 @@ abbrev mutual
   pub wrote_arguments : Names → List (List ℕ) → List ℕ → List ℕ → TermTrees → List ℕ
   wrote_arguments ns around sep out nil = out
   wrote_arguments ns around sep out (cons t ts) = wrote_arguments ns around (codes ",") (wrote ns around (out ++ sep) t) ts
+
+-- a message where it stands without parentheses
+abbrev pub wrote_branch : Names → List (List ℕ) → List ℕ → TermTree → List ℕ
+wrote_branch ns around out t = closed form.Term (form_of t) (wrote ns around (opened form.Term (form_of t) out) t)
+
+-- a quantifier with this word
+abbrev pub wrote_quantified : Names → List (List ℕ) → List ℕ → Sort → List ℕ → TermTree → List ℕ
+wrote_quantified ns around word s out t = wrote ns (around ++ binder_name ns around s ∷ []) (wrote_binder word (binder_name ns around s) s out) t

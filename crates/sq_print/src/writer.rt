@@ -1,5 +1,6 @@
 // The text of a term, written behind what a buffer holds.
 ghost use Rattle.std.specs.Prelude.{◌≡◌, OnOk};
+ghost use Rattle.sq_term.specs.Syntax.{fun};
 ghost use Rattle.sq_term.specs.View.{term_tree, term_trees};
 ghost use Rattle.sq_print.specs.Written as spec;
 ghost use Rattle.sq_print.specs.Scopes.{names_of};
@@ -12,8 +13,8 @@ use crate::pieces::{
     write_macro, write_name, write_related, write_same_indices,
 };
 use crate::scope::{Scope, text_at};
-use sq_base::{NoMemory, Text};
-use sq_term::Term;
+use sq_base::{NoMemory, Seq, Sort, Text};
+use sq_term::{Idx, Term};
 
 /// Writes a term. Parentheses around it are the caller's.
 #[cycle(write)]
@@ -23,87 +24,112 @@ pub fn write(out: &mut Text, scope: &Scope, binders: &mut Binders, t: &Term) -> 
     ensures text { OnOk result (out.new ≡ spec.wrote (names_of scope.now) binders.old.around out.old (term_tree t.now)) }
     ensures kept { OnOk result (Kept (names_of scope.now) binders.old binders.new) }
 {
-    let mark = binders.mark();
     match t {
-        Term::Name(n, indices) => {
-            write_name(out, scope, &binders.around, *n, indices)?;
-            Ok(())
-        }
+        Term::Name(n, indices) => write_name(out, scope, &binders.around, *n, indices)?,
         Term::Fun(f, indices, arguments) => {
-            match Layout::of(*f, indices.len(), arguments.len()) {
-                Some(layout) => {
-                    write_parts(out, scope, binders, layout, arguments.as_slice())?;
-                    out.push_str(layout.end())?;
-                    Ok(())
-                }
-                None => {
-                    write_head(out, scope, &binders.around, *f, indices)?;
-                    let first = first_before(indices);
-                    write_arguments(out, scope, binders, first, arguments.as_slice())?;
-                    end_function(out, indices, arguments.as_slice())?;
-                    Ok(())
-                }
-            }
+            write_function(out, scope, binders, *f, indices, arguments.as_slice())?
         }
-        Term::Macro(word, at) => {
-            write_macro(out, scope, &binders.around, *word, at)?;
-            Ok(())
-        }
-        Term::Schema(k) => {
-            out.push_str(text_at(scope.schemas, *k as usize))?;
-            Ok(())
-        }
+        Term::Macro(word, at) => write_macro(out, scope, &binders.around, *word, at)?,
+        Term::Schema(k) => out.push_str(text_at(scope.schemas, *k as usize))?,
         Term::Diff(left, right) => {
             out.push_str("diff(")?;
             write(out, scope, binders, left.get())?;
             out.push_str(",")?;
             write(out, scope, binders, right.get())?;
-            out.push_str(")")?;
-            Ok(())
+            out.push_str(")")?
         }
-        Term::Le(a, b) => {
-            write_related(out, scope, &binders.around, a, " <= ", b)?;
-            Ok(())
-        }
-        Term::TsEq(a, b) => {
-            write_related(out, scope, &binders.around, a, " = ", b)?;
-            Ok(())
-        }
-        Term::IdxEq(i, j) => {
-            write_same_indices(out, scope, &binders.around, *i, *j)?;
-            Ok(())
-        }
-        Term::Happens(at) => {
-            write_happens(out, scope, &binders.around, at)?;
-            Ok(())
-        }
+        Term::Le(a, b) => write_related(out, scope, &binders.around, a, " <= ", b)?,
+        Term::TsEq(a, b) => write_related(out, scope, &binders.around, a, " = ", b)?,
+        Term::IdxEq(i, j) => write_same_indices(out, scope, &binders.around, *i, *j)?,
+        Term::Happens(at) => write_happens(out, scope, &binders.around, at)?,
         Term::Forall(sort, body) => {
-            enter(out, scope, binders, "forall", *sort)?;
-            write(out, scope, binders, body.get())?;
-            binders.release(mark);
-            Ok(())
+            write_quantified(out, scope, binders, "forall", *sort, body.get())?
         }
         Term::Exists(sort, body) => {
-            enter(out, scope, binders, "exists", *sort)?;
-            write(out, scope, binders, body.get())?;
-            binders.release(mark);
-            Ok(())
+            write_quantified(out, scope, binders, "exists", *sort, body.get())?
         }
         Term::Find(count, test, found, other) => {
+            let mark = binders.mark();
             enter_find(out, scope, binders, *count)?;
             write(out, scope, binders, test.get())?;
             out.push_str(" in ")?;
-            open(out, Form::Term, Form::of(found.get()))?;
-            write(out, scope, binders, found.get())?;
-            close(out, Form::Term, Form::of(found.get()))?;
+            write_branch(out, scope, binders, found.get())?;
             binders.release(mark);
             out.push_str(" else ")?;
-            open(out, Form::Term, Form::of(other.get()))?;
-            write(out, scope, binders, other.get())?;
-            close(out, Form::Term, Form::of(other.get()))?;
+            write_branch(out, scope, binders, other.get())?
+        }
+    }
+    Ok(())
+}
+
+/// Writes an application of a function, by its layout or as a call.
+#[cycle(write)]
+#[tactic(auto, using(crate::proofs::Rows::write_rules))]
+fn write_function(
+    out: &mut Text,
+    scope: &Scope,
+    binders: &mut Binders,
+    f: u32,
+    indices: &Seq<Idx>,
+    arguments: &[Term],
+) -> Result<(), NoMemory>
+    requires { IsAround (names_of scope.now) binders.old }
+    ensures text { OnOk result (out.new ≡ spec.wrote (names_of scope.now) binders.old.around out.old (fun f indices.now (term_trees arguments.now))) }
+    ensures kept { OnOk result (Kept (names_of scope.now) binders.old binders.new) }
+{
+    match Layout::of(f, indices.len(), arguments.len()) {
+        Some(layout) => {
+            write_parts(out, scope, binders, layout, arguments)?;
+            out.push_str(layout.end())?;
+            Ok(())
+        }
+        None => {
+            write_head(out, scope, &binders.around, f, indices)?;
+            let first = first_before(indices);
+            write_arguments(out, scope, binders, first, arguments)?;
+            end_function(out, indices, arguments)?;
             Ok(())
         }
     }
+}
+
+/// Writes a quantifier with this word.
+#[cycle(write)]
+fn write_quantified(
+    out: &mut Text,
+    scope: &Scope,
+    binders: &mut Binders,
+    word: &str,
+    sort: Sort,
+    body: &Term,
+) -> Result<(), NoMemory>
+    requires { IsAround (names_of scope.now) binders.old }
+    ensures text { OnOk result (out.new ≡ spec.wrote_quantified (names_of scope.now) binders.old.around word.now sort out.old (term_tree body.now)) }
+    ensures kept { OnOk result (Kept (names_of scope.now) binders.old binders.new) }
+{
+    let mark = binders.mark();
+    enter(out, scope, binders, word, sort)?;
+    write(out, scope, binders, body)?;
+    binders.release(mark);
+    Ok(())
+}
+
+/// Writes a term where a message stands without parentheses.
+#[cycle(write)]
+fn write_branch(
+    out: &mut Text,
+    scope: &Scope,
+    binders: &mut Binders,
+    t: &Term,
+) -> Result<(), NoMemory>
+    requires { IsAround (names_of scope.now) binders.old }
+    ensures text { OnOk result (out.new ≡ spec.wrote_branch (names_of scope.now) binders.old.around out.old (term_tree t.now)) }
+    ensures kept { OnOk result (Kept (names_of scope.now) binders.old binders.new) }
+{
+    open(out, Form::Term, Form::of(t))?;
+    write(out, scope, binders, t)?;
+    close(out, Form::Term, Form::of(t))?;
+    Ok(())
 }
 
 /// Writes the arguments of a function that has a layout, each with what stands before it.
