@@ -1,3 +1,4 @@
+pub mod Bare
 pub mod TreeTexts
 pub mod Tokens
 pub mod Reading
