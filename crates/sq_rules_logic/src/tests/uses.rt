@@ -74,6 +74,7 @@ fn equivalence(alloc: Global) -> Stmt
 }
 
 // The axiom of system 1 that init happens.
+#[tactic(auto, using(sq_term::proofs::Views::tree_rules))]
 fn of_time(alloc: Global) -> Stmt
     ensures { stmt_tree result ≡ record { kind = Axiom; system = 1; schemas = []; vars = []; start = local Both [] [] (happens init) } }
 {
