@@ -1,8 +1,7 @@
 -- Where nothing is declared, a formula without names can be read back.
-use Rattle.std.proofs.Common.{◌≡◌, ◌<◌, ◌≤◌, ℕ, zero, suc, List, [], ◌∷◌, length, map, unwrap_or, Some, None, slice_get, refl, sym, ap, subst, arith}
+use Rattle.std.proofs.Common.{◌≡◌, ℕ, zero, suc, List, [], ◌∷◌, length, map, unwrap_or, Some, None, slice_get, refl, sym, ap, subst, arith}
 use Rattle.sq_base.specs.declared.sort.Sort.TheVariants.{Boolean}
 use Rattle.sq_sym.specs.declared.symbol.Symbol.{Symbol}
-use Rattle.sq_sym.specs.declared.symbol.Symbol.TheVariants as symbol
 use Rattle.sq_sym.specs.Declarations.{found}
 use Rattle.sq_term.specs.declared.action.Action.{Action}
 use Rattle.sq_term.specs.Syntax.{TermTree, happens, init}
@@ -12,7 +11,7 @@ use Rattle.sq_system.specs.Environments.{EnvTree, env_tree, without_declarations
 use Rattle.sq_system.specs.Functions.{builtin_functions}
 use Rattle.sq_resolve.specs.declared.scope.Scope.{Scope}
 use Rattle.sq_resolve.specs.Scopes.{Context, context}
-use Rattle.sq_readback.specs.Readable.{HasPlainNames, Declares, own_actions, own_names, IsReadable}
+use Rattle.sq_readback.specs.Readable.{HasPlainNames, own_actions, own_names, IsReadable}
 use Rattle.sq_readback.specs.Calls.{IsWithinLimits}
 
 -- the built-in functions, and systems of which the first has no action
