@@ -10,6 +10,3 @@ pub use memory::NoMemory;
 pub use seq::Seq;
 pub use sort::Sort;
 pub use text::Text;
-
-#[cfg(test)]
-mod tests;

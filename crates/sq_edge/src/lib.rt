@@ -13,6 +13,3 @@ pub use real::{FileShelf, StdSink};
 pub use shelf::{Shelf, ShelfError};
 pub use sink::{Sink, SinkFault};
 pub use status::Status;
-
-#[cfg(test)]
-mod tests;

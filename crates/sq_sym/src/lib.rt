@@ -6,6 +6,3 @@ mod table;
 
 pub use symbol::{SymFault, Symbol};
 pub use table::Table;
-
-#[cfg(test)]
-mod tests;

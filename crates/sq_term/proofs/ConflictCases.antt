@@ -2,7 +2,8 @@
 use Rattle.std.proofs.Common.{◌≡◌, refl, List, [], ◌∷◌, true, false}
 use Rattle.std.specs.Prelude.{Some, None}
 use Rattle.sq_term.specs.declared.action.PathStep.{PathStep}
-use Rattle.sq_term.specs.declared.action.PathStep.TheVariants.{Side, Rep, Branch, Found, NotFound, Done}
+use Rattle.sq_term.specs.declared.action.PathStep.TheVariants.{Side, Rep, Branch, Found, NotFound}
+use Rattle.sq_term.specs.declared.action.PathStep.TheVariants.{Done}
 use Rattle.sq_term.specs.Systems.{in_conflict, clash}
 
 abbrev found : List PathStep
@@ -29,7 +30,8 @@ itself = refl
 branches : in_conflict (Branch true ∷ Done ∷ []) [] (Branch false ∷ Done ∷ []) [] ≡ true
 branches = refl
 
-later_on_the_line : in_conflict (Branch true ∷ Done ∷ []) [] (Branch true ∷ Done ∷ Done ∷ []) [] ≡ false
+later_on_the_line : in_conflict (Branch true ∷ Done ∷ []) [] (Branch true ∷ Done ∷ Done ∷ []) []
+    ≡ false
 later_on_the_line = refl
 
 sides_of_a_parallel : in_conflict (Side true ∷ Done ∷ []) [] (Side false ∷ Done ∷ []) [] ≡ false

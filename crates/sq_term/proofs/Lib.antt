@@ -1,4 +1,6 @@
+pub mod KindNumbers
 pub mod Views
+pub mod FormulaRules
 pub mod Inverse
 pub mod GroundViews
 pub mod Closedness

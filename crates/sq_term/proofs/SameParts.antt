@@ -51,5 +51,6 @@ indices-decide a b = pointwise_decides idx-decides a b
 
 pub is_same_ts-decides : (a b : Ts) → Decides (is_same_ts a b) (a ≡ b)
 is_same_ts-decides a b =
-    Decides-like _ (λ e. sym (of_ts_tree_of a) ∙ (ap of_ts_tree e ∙ of_ts_tree_of b)) (λ e. ap ts_tree e)
+    Decides-like _ (λ e. sym (of_ts_tree_of a) ∙ (ap of_ts_tree e ∙ of_ts_tree_of b))
+    (λ e. ap ts_tree e)
     (is_same_ts_tree-decides (ts_tree a) (ts_tree b))

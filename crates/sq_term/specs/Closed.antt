@@ -2,7 +2,10 @@
 use Rattle.std.specs.Prelude.{ℕ, ◌+◌, ◌-◌, suc, max, Bool, true, ◌&&◌, nat_lt, List, [], ◌∷◌}
 use Rattle.sq_term.specs.declared.term.Idx.{Idx}
 use Rattle.sq_term.specs.declared.term.Idx.TheVariants as idx
-use Rattle.sq_term.specs.Syntax.{TsTree, free, bound, init, pred, action, TermTree, name, fun, macro, schema, diff, le, ts_eq, idx_eq, happens, all, some, find, TermTrees, nil, cons}
+use Rattle.sq_term.specs.Macros.{macro_indices}
+use Rattle.sq_term.specs.Syntax.{TsTree, free, bound, init, pred, action, TermTree, name, fun}
+use Rattle.sq_term.specs.Syntax.{macro, schema, diff, le, ts_eq, idx_eq, happens, all, some, find}
+use Rattle.sq_term.specs.Syntax.{TermTrees, nil, cons}
 
 -- no bound variable reaches past k binders around the term
 abbrev pub idx_closed : ℕ → Idx → Bool
@@ -24,7 +27,7 @@ abbrev mutual
   pub is_closed : ℕ → TermTree → Bool
   is_closed k (name n is) = indices_closed k is
   is_closed k (fun f is ts) = indices_closed k is && are_closed k ts
-  is_closed k (macro m t) = ts_closed k t
+  is_closed k (macro m t) = indices_closed k (macro_indices m) && ts_closed k t
   is_closed k (schema n) = true
   is_closed k (diff a b) = is_closed k a && is_closed k b
   is_closed k (le a b) = ts_closed k a && ts_closed k b
@@ -59,7 +62,7 @@ abbrev mutual
   pub loose : TermTree → ℕ
   loose (name n is) = indices_loose is
   loose (fun f is ts) = max (indices_loose is) (all_loose ts)
-  loose (macro m t) = ts_loose t
+  loose (macro m t) = max (indices_loose (macro_indices m)) (ts_loose t)
   loose (schema n) = 0
   loose (diff a b) = max (loose a) (loose b)
   loose (le a b) = max (ts_loose a) (ts_loose b)

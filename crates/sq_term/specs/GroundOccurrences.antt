@@ -1,16 +1,18 @@
 -- Where a name occurs in a ground term, and in which role.
-use Rattle.std.specs.Prelude.{◌≡◌, ℕ, List, [], ◌∷◌, ◌++◌, Bool, true, false, cond, ◌==◌, ◌&&◌}
+use Rattle.std.specs.Prelude.{◌≡◌, ℕ, List, [], ◌∷◌, ◌++◌, Bool, true, false, if◌then◌else◌, ◌==◌}
+use Rattle.std.specs.Prelude.{◌&&◌}
 use Rattle.sq_term.specs.declared.signature.FunDecl.{FunDecl}
 use Rattle.sq_term.specs.Lists.{same_numbers}
-use Rattle.sq_term.specs.Symbols.{kind_of}
+use Rattle.sq_term.specs.Symbols.{Kind}
 use Rattle.sq_term.specs.Signatures.{function_role, is_hash, is_keyed, is_pk, is_equality}
 use Rattle.sq_term.specs.Ground.{Ground, named, applied, atom, Grounds, none, more}
 
--- `key f m test`: the second argument of f(m,k), for a hash or a signing function f; it is a test where f is a hash and that
--- application is itself an argument of `eq`. `public`: the argument of a public key. `bare`: any other occurrence.
+-- `key f m test`: the second argument of f(m,k), for a hash or a signing function f; it is a test
+-- where f is a hash and that application is itself an argument of `eq`. `public`: the argument of a
+-- public key. `bare`: any other occurrence.
 pub data Role : Type 0 where
   bare public : Role
-  key : ℕ → Ground → Bool → Role
+  key : Kind → Ground → Bool → Role
 
 abbrev pub is_name : ℕ → List ℕ → Ground → Bool
 is_name n is (named m js) = (m == n) && same_numbers js is
@@ -30,17 +32,19 @@ abbrev pub first_of_all : Grounds → Ground
 first_of_all none = atom 0
 first_of_all (more t ts) = t
 
--- the roles of the name's occurrences, in preorder; `side` says that the term is an argument of `eq`
+-- the roles of the name's occurrences, in preorder; `side` says that the term is an argument of
+-- `eq`
 module _ (funs : List FunDecl) (n : ℕ) (is : List ℕ) where
   abbrev mutual
     pub occurrences : Bool → Ground → List Role
-    occurrences side (named m js) = cond (is_name n is (named m js)) (bare ∷ []) []
+    occurrences side (named m js) = if is_name n is (named m js) then bare ∷ [] else []
     occurrences side (applied f js ts) =
-        cond (is_keyed (function_role funs f) && is_keyed_by n is ts)
-        (key f (first_of_all ts) (side && is_hash (function_role funs f)) ∷ occurrences_in_first ts)
-        (cond (is_pk (function_role funs f) && is_only_name n is ts)
-        (public ∷ [])
-        (occurrences_in_all (is_equality (kind_of f)) ts))
+        if is_keyed (function_role funs f) && is_keyed_by n is ts
+        then key f (first_of_all ts) (side && is_hash (function_role funs f))
+        ∷ occurrences_in_first ts
+        else (if is_pk (function_role funs f) && is_only_name n is ts
+        then public ∷ []
+        else occurrences_in_all (is_equality f) ts)
     occurrences side (atom k) = []
 
     pub occurrences_in_first : Grounds → List Role

@@ -1,5 +1,6 @@
 -- Words on lists.
-use Rattle.std.specs.Prelude.{◌≡◌, ℕ, zero, suc, List, [], ◌∷◌, Bool, true, false, ◌&&◌, ◌==◌, cond, not}
+use Rattle.std.specs.Prelude.{◌≡◌, ℕ, zero, suc, List, [], ◌∷◌, Bool, true, false, ◌&&◌, ◌==◌}
+use Rattle.std.specs.Prelude.{if◌then◌else◌, not}
 
 -- x is one of the elements
 pub data Member {A : Type 0} : List A → A → Type 0 where
@@ -34,4 +35,4 @@ same_numbers _ _ = false
 
 -- equal truth values
 abbrev pub same_bit : Bool → Bool → Bool
-same_bit a b = cond a b (not b)
+same_bit a b = if a then b else not b

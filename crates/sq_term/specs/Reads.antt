@@ -4,8 +4,10 @@ use Rattle.sq_term.specs.declared.term.Macro.{Macro}
 use Rattle.sq_term.specs.declared.term.Macro.TheVariants.{Input}
 use Rattle.sq_term.specs.declared.model.Value.{Value}
 use Rattle.sq_term.specs.Lists.{Member}
-use Rattle.sq_term.specs.Syntax.{TsTree, TermTree, name, fun, macro, schema, diff, le, ts_eq, idx_eq, happens, all, some, find, TermTrees, nil, cons}
-use Rattle.sq_term.specs.Translate.{Times, Assignment, ts_value, domain, choices}
+use Rattle.sq_term.specs.Macros.{word}
+use Rattle.sq_term.specs.Syntax.{TsTree, TermTree, name, fun, macro, schema, diff, le, ts_eq}
+use Rattle.sq_term.specs.Syntax.{idx_eq, happens, all, some, find, TermTrees, nil, cons}
+use Rattle.sq_term.specs.Translate.{Times, Assignment, macro_value, ts_value, domain, choices}
 
 -- no schema variable, and each macro has the property
 module _ (w : Times) (P : List Value → Macro → TsTree → Type 0) where
@@ -22,7 +24,9 @@ module _ (w : Times) (P : List Value → Macro → TsTree → Type 0) where
     AtMacros bs (happens t) = Unit {0}
     AtMacros bs (all s body) = (x : Value) → Member (domain w s) x → AtMacros (x ∷ bs) body
     AtMacros bs (some s body) = (x : Value) → Member (domain w s) x → AtMacros (x ∷ bs) body
-    AtMacros bs (find c test found other) = ((es : List Value) → Member (choices w c bs) es → AtMacros es test × AtMacros es found) × AtMacros bs other
+    AtMacros bs (find c test found other) =
+        ((es : List Value) → Member (choices w c bs) es → AtMacros es test × AtMacros es found)
+        × AtMacros bs other
 
     pub AllAtMacros : List Value → TermTrees → Type 0
     AllAtMacros bs nil = Unit {0}
@@ -34,7 +38,7 @@ IsNoLater p (Some r) = r ≤ p
 IsNoLater p None = Unit {0}
 
 abbrev pub IsEarlyInput : Times → Assignment → ℕ → List Value → Macro → TsTree → Type 0
-IsEarlyInput w a p bs m t = (m ≡ Input) × IsNoLater p (ts_value w a bs t)
+IsEarlyInput w a p bs m t = (macro_value a bs m ≡ word Input) × IsNoLater p (ts_value w a bs t)
 
 -- the term reads inputs alone, at position p or earlier
 abbrev pub ReadsUpTo : Times → Assignment → ℕ → List Value → TermTree → Type 0

@@ -1,23 +1,25 @@
--- What the list of functions says of a function's number: its role, and where its arguments and its result are Boolean.
-use Rattle.std.specs.Prelude.{ℕ, zero, List, get_or, Bool, true, false}
+-- What the list of functions says of a function: its role, and whether its result is a Boolean.
+use Rattle.std.specs.Prelude.{ℕ, suc, List, get_or, Bool, true, false, ◌&&◌}
 use Rattle.sq_base.specs.declared.sort.Sort.{Sort}
 use Rattle.sq_base.specs.declared.sort.Sort.TheVariants.{Message, Boolean}
 use Rattle.sq_term.specs.declared.signature.FunDecl.{FunDecl}
 use Rattle.sq_term.specs.declared.signature.FunRole.{FunRole}
 use Rattle.sq_term.specs.declared.signature.FunRole.TheVariants.{Plain, Hash, Sign, Check, Pk}
-use Rattle.sq_term.specs.Symbols.{Kind, truth, falsity, negation, conjunction, disjunction, implication, equality, conditional, of_bool, declared, kind_of, function_number}
+use Rattle.sq_term.specs.Symbols.{Kind, equality, declared, declared_number}
+use Rattle.sq_term.specs.Builtins.{gives_boolean}
 
 -- stands for a function that is not there
 abbrev pub no_function : FunDecl
 no_function = record { idx = 0; args = 0; result = Message; role = Plain }
 
-abbrev pub role_of : List FunDecl → Kind → FunRole
-role_of funs (declared k) = (get_or funs (function_number (declared k)) no_function).role
-role_of funs kind = Plain
+-- the declared function of this number
+abbrev pub declared_at : List FunDecl → ℕ → FunDecl
+declared_at funs k = get_or funs (declared_number k) no_function
 
--- the role of the function with this number; the built-in ones are plain
-abbrev pub function_role : List FunDecl → ℕ → FunRole
-function_role funs f = role_of funs (kind_of f)
+-- the built-in functions are plain
+abbrev pub function_role : List FunDecl → Kind → FunRole
+function_role funs (declared k) = (declared_at funs k).role
+function_role funs kind = Plain
 
 abbrev pub is_hash : FunRole → Bool
 is_hash Hash = true
@@ -41,6 +43,12 @@ abbrev pub is_pk : FunRole → Bool
 is_pk Pk = true
 is_pk role = false
 
+-- the declared functions k, k + 1 and k + 2 are sign, checksign and pk of one signature
+abbrev pub is_signature : List FunDecl → ℕ → Bool
+is_signature funs k =
+    is_sign (declared_at funs k).role
+    && (is_check (declared_at funs (suc k)).role && is_pk (declared_at funs (suc (suc k))).role)
+
 abbrev pub is_equality : Kind → Bool
 is_equality equality = true
 is_equality kind = false
@@ -49,30 +57,7 @@ abbrev pub is_boolean_sort : Sort → Bool
 is_boolean_sort Boolean = true
 is_boolean_sort sort = false
 
-abbrev pub has_boolean_result : List FunDecl → Kind → Bool
-has_boolean_result funs truth = true
-has_boolean_result funs falsity = true
-has_boolean_result funs negation = true
-has_boolean_result funs conjunction = true
-has_boolean_result funs disjunction = true
-has_boolean_result funs implication = true
-has_boolean_result funs equality = true
-has_boolean_result funs (declared k) = is_boolean_sort (get_or funs (function_number (declared k)) no_function).result
-has_boolean_result funs kind = false
-
 -- the function gives a Boolean
-abbrev pub is_boolean_function : List FunDecl → ℕ → Bool
-is_boolean_function funs f = has_boolean_result funs (kind_of f)
-
-abbrev pub has_boolean_argument : Kind → ℕ → Bool
-has_boolean_argument negation k = true
-has_boolean_argument conjunction k = true
-has_boolean_argument disjunction k = true
-has_boolean_argument implication k = true
-has_boolean_argument conditional zero = true
-has_boolean_argument of_bool k = true
-has_boolean_argument kind k = false
-
--- argument k of the function, counted from 0, is a Boolean; declared functions take messages
-abbrev pub takes_boolean : ℕ → ℕ → Bool
-takes_boolean f k = has_boolean_argument (kind_of f) k
+abbrev pub is_boolean_function : List FunDecl → Kind → Bool
+is_boolean_function funs (declared k) = is_boolean_sort (declared_at funs k).result
+is_boolean_function funs kind = gives_boolean kind

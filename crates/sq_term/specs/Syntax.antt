@@ -3,6 +3,7 @@ use Rattle.std.specs.Prelude.{ℕ, List}
 use Rattle.sq_base.specs.declared.sort.Sort.{Sort}
 use Rattle.sq_term.specs.declared.term.Idx.{Idx}
 use Rattle.sq_term.specs.declared.term.Macro.{Macro}
+use Rattle.sq_term.specs.Symbols.{Kind}
 
 pub data TsTree : Type 0 where
   free : ℕ → TsTree
@@ -14,7 +15,7 @@ pub data TsTree : Type 0 where
 mutual
   pub data TermTree : Type 0 where
     name : ℕ → List Idx → TermTree
-    fun : ℕ → List Idx → TermTrees → TermTree
+    fun : Kind → List Idx → TermTrees → TermTree
     macro : Macro → TsTree → TermTree
     schema : ℕ → TermTree
     diff : TermTree → TermTree → TermTree

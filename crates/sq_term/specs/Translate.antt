@@ -1,5 +1,7 @@
--- From a term to a ground term, in a world: a trace with the values of its macros, read on one side.
-use Rattle.std.specs.Prelude.{ℕ, zero, suc, List, [], ◌∷◌, ◌++◌, map, flat_map, get_or, Option, Some, None, Bool, true, false, cond, nat_le, ◌==◌}
+-- From a term to a ground term, in a world: a trace with the values of its macros, read on one
+-- side.
+use Rattle.std.specs.Prelude.{ℕ, zero, suc, List, [], ◌∷◌, ◌++◌, map, flat_map, get_or, Option}
+use Rattle.std.specs.Prelude.{Some, None, Bool, true, false, if◌then◌else◌, nat_le, ◌==◌}
 use Rattle.sq_base.specs.declared.sort.Sort.{Sort}
 use Rattle.sq_base.specs.declared.sort.Sort.TheVariants.{Message, Boolean, Index, Timestamp}
 use Rattle.sq_term.specs.declared.term.Idx.{Idx}
@@ -8,13 +10,16 @@ use Rattle.sq_term.specs.declared.term.Macro.{Macro}
 use Rattle.sq_term.specs.declared.model.Value.{Value}
 use Rattle.sq_term.specs.declared.model.Value.TheVariants.{Index as Number, Time as Moment}
 use Rattle.sq_term.specs.Lists.{fold_right, count}
-use Rattle.sq_term.specs.Symbols.{conditional}
-use Rattle.sq_term.specs.Syntax.{TsTree, free, bound, init, pred, action, TermTree, name, fun, macro, schema, diff, le, ts_eq, idx_eq, happens, all, some, find, TermTrees, nil, cons}
+use Rattle.sq_term.specs.Macros.{GroundMacro, macro_indices, ground_macro}
+use Rattle.sq_term.specs.Syntax.{TsTree, free, bound, init, pred, action, TermTree, name, fun}
+use Rattle.sq_term.specs.Syntax.{macro, schema, diff, le, ts_eq, idx_eq, happens, all, some, find}
+use Rattle.sq_term.specs.Syntax.{TermTrees, nil, cons}
 use Rattle.sq_term.specs.Ground.{Ground, named, applied, atom, Grounds, none, more}
-use Rattle.sq_term.specs.GroundFormulas.{ternary, truth_of, conj, disj_of_all}
+use Rattle.sq_term.specs.GroundFormulas.{conditional, truth_of, conj, disj_of_all}
 
--- what timestamps and quantifiers need of a trace: how many indices there are, how many positions, init among them, and where
--- the instance of an action stands. A timestamp's value is a position, or None where it is undefined.
+-- what timestamps and quantifiers need of a trace: how many indices there are, how many positions,
+-- init among them, and where the instance of an action stands. A timestamp's value is a position,
+-- or None where it is undefined.
 pub record Times : Type 0 where
   pub indices : ℕ
   pub positions : ℕ
@@ -23,10 +28,11 @@ pub record Times : Type 0 where
 -- a trace, the values of the macros on it, and which side of `diff` is read, true for the left one
 pub record World : Type 0 where
   pub times : Times
-  pub values : Macro → Option ℕ → Ground
+  pub values : GroundMacro → Option ℕ → Ground
   pub left : Bool
 
--- the values of a sequent's variables, and the messages for the schema variables; one that has no message stands for its atom
+-- the values of a sequent's variables, and the messages for the schema variables; one that has no
+-- message stands for its atom
 pub record Assignment : Type 0 where
   pub variables : List Value
   pub schemas : List Ground
@@ -46,6 +52,10 @@ idx_value a bs (Bound k) = number_of (get_or bs k (Moment None))
 
 abbrev pub idx_values : Assignment → List Value → List Idx → List ℕ
 idx_values a bs is = map (idx_value a bs) is
+
+-- what records are asked for where a term reads a macro
+abbrev pub macro_value : Assignment → List Value → Macro → GroundMacro
+macro_value a bs m = ground_macro m (idx_values a bs (macro_indices m))
 
 -- the position before; init and undefined have none
 abbrev pub before : Option ℕ → Option ℕ
@@ -72,7 +82,8 @@ is_same_time (Some p) (Some q) = p == q
 is_same_time None None = true
 is_same_time _ _ = false
 
--- the values of a variable of the sort: the indices in ascending order, or the positions and then undefined
+-- the values of a variable of the sort: the indices in ascending order, or the positions and then
+-- undefined
 abbrev pub domain : Times → Sort → List Value
 domain w Index = map Number (count 0 w.indices)
 domain w Timestamp = map (λ p. Moment (Some p)) (count 0 w.positions) ++ Moment None ∷ []
@@ -88,17 +99,22 @@ abbrev mutual
   pub translate : World → Assignment → List Value → TermTree → Ground
   translate w a bs (name n is) = named n (idx_values a bs is)
   translate w a bs (fun f is ts) = applied f (idx_values a bs is) (translate_all w a bs ts)
-  translate w a bs (macro m t) = w.values m (ts_value w.times a bs t)
+  translate w a bs (macro m t) = w.values (macro_value a bs m) (ts_value w.times a bs t)
   translate w a bs (schema k) = get_or a.schemas k (atom k)
-  translate w a bs (diff t u) = cond w.left (translate w a bs t) (translate w a bs u)
-  translate w a bs (le t s) = truth_of (is_upto (ts_value w.times a bs t) (ts_value w.times a bs s))
-  translate w a bs (ts_eq t s) = truth_of (is_same_time (ts_value w.times a bs t) (ts_value w.times a bs s))
+  translate w a bs (diff t u) = if w.left then translate w a bs t else translate w a bs u
+  translate w a bs (le t s) =
+      truth_of (is_upto (ts_value w.times a bs t) (ts_value w.times a bs s))
+  translate w a bs (ts_eq t s) =
+      truth_of (is_same_time (ts_value w.times a bs t) (ts_value w.times a bs s))
   translate w a bs (idx_eq i j) = truth_of (idx_value a bs i == idx_value a bs j)
   translate w a bs (happens t) = truth_of (is_position (ts_value w.times a bs t))
-  translate w a bs (all s body) = conj (map (λ x. translate w a (x ∷ bs) body) (domain w.times s))
-  translate w a bs (some s body) = disj_of_all (map (λ x. translate w a (x ∷ bs) body) (domain w.times s))
+  translate w a bs (all s body) =
+      conj (map (λ x. translate w a (x ∷ bs) body) (domain w.times s))
+  translate w a bs (some s body) =
+      disj_of_all (map (λ x. translate w a (x ∷ bs) body) (domain w.times s))
   translate w a bs (find c test found other) =
-      fold_right (λ xs rest. ternary conditional (translate w a xs test) (translate w a xs found) rest) (translate w a bs other) (choices w.times c bs)
+      fold_right (λ xs rest. conditional (translate w a xs test) (translate w a xs found) rest)
+      (translate w a bs other) (choices w.times c bs)
 
   pub translate_all : World → Assignment → List Value → TermTrees → Grounds
   translate_all w a bs nil = none

@@ -5,7 +5,9 @@ use Rattle.sq_base.specs.declared.sort.Sort.{Sort}
 use Rattle.sq_base.specs.declared.sort.Sort.TheVariants.{Message, Boolean, Index, Timestamp}
 use Rattle.sq_term.specs.declared.term.Macro.{Macro}
 use Rattle.sq_term.specs.declared.term.Macro.TheVariants.{Input, Output, Cond, Exec, Frame}
-use Rattle.sq_term.specs.Syntax.{TsTree, TermTree, name, fun, macro, schema, diff, le, ts_eq, idx_eq, happens, all, some, find, TermTrees, nil, cons}
+use Rattle.sq_term.specs.Symbols.{same_kind}
+use Rattle.sq_term.specs.Syntax.{TermTree, name, fun, macro, schema, diff, le, ts_eq, idx_eq}
+use Rattle.sq_term.specs.Syntax.{happens, all, some, find, TermTrees, nil, cons}
 use Rattle.sq_term.specs.TsEquality.{is_same_idx, is_same_ts_tree}
 
 abbrev pub is_same_sort : Sort → Sort → Bool
@@ -26,7 +28,8 @@ is_same_macro _ _ = false
 abbrev mutual
   pub is_same_tree : TermTree → TermTree → Bool
   is_same_tree (name m is) (name n js) = (m == n) && pointwise is_same_idx is js
-  is_same_tree (fun m is ts) (fun n js us) = (m == n) && (pointwise is_same_idx is js && are_same_trees ts us)
+  is_same_tree (fun f is ts) (fun g js us) =
+      same_kind f g && (pointwise is_same_idx is js && are_same_trees ts us)
   is_same_tree (macro m s) (macro n t) = is_same_macro m n && is_same_ts_tree s t
   is_same_tree (schema m) (schema n) = m == n
   is_same_tree (diff a b) (diff c d) = is_same_tree a c && is_same_tree b d
@@ -36,7 +39,8 @@ abbrev mutual
   is_same_tree (happens s) (happens t) = is_same_ts_tree s t
   is_same_tree (all r s) (all q t) = is_same_sort r q && is_same_tree s t
   is_same_tree (some r s) (some q t) = is_same_sort r q && is_same_tree s t
-  is_same_tree (find m a b c) (find n d e f) = (m == n) && (is_same_tree a d && (is_same_tree b e && is_same_tree c f))
+  is_same_tree (find m a b c) (find n d e f) =
+      (m == n) && (is_same_tree a d && (is_same_tree b e && is_same_tree c f))
   is_same_tree _ _ = false
 
   pub are_same_trees : TermTrees → TermTrees → Bool

@@ -29,15 +29,20 @@ abbrev pub is_same_ts : Ts → Ts → Bool
 is_same_ts a b = is_same_ts_tree (ts_tree a) (ts_tree b)
 
 pub is_same_idx-decides : (a b : Idx) → Decides (is_same_idx a b) (a ≡ b)
-is_same_idx-decides (idx.Free m) (idx.Free n) = Decides-like _ (λ e. ap idx.Free e) (λ e. cc) (Decides-eqb m n)
-is_same_idx-decides (idx.Bound m) (idx.Bound n) = Decides-like _ (λ e. ap idx.Bound e) (λ e. cc) (Decides-eqb m n)
+is_same_idx-decides (idx.Free m) (idx.Free n) =
+    Decides-like _ (λ e. ap idx.Free e) (λ e. cc) (Decides-eqb m n)
+is_same_idx-decides (idx.Bound m) (idx.Bound n) =
+    Decides-like _ (λ e. ap idx.Bound e) (λ e. cc) (Decides-eqb m n)
 is_same_idx-decides _ _ = (λ e. cc, λ e. cc)
 
 pub is_same_ts_tree-decides : (a b : TsTree) → Decides (is_same_ts_tree a b) (a ≡ b)
-is_same_ts_tree-decides (free m) (free n) = Decides-like _ (λ e. ap free e) (λ e. cc) (Decides-eqb m n)
-is_same_ts_tree-decides (bound m) (bound n) = Decides-like _ (λ e. ap bound e) (λ e. cc) (Decides-eqb m n)
+is_same_ts_tree-decides (free m) (free n) =
+    Decides-like _ (λ e. ap free e) (λ e. cc) (Decides-eqb m n)
+is_same_ts_tree-decides (bound m) (bound n) =
+    Decides-like _ (λ e. ap bound e) (λ e. cc) (Decides-eqb m n)
 is_same_ts_tree-decides init init = (λ e. refl, λ e. refl)
-is_same_ts_tree-decides (pred s) (pred t) = Decides-like _ (λ e. ap pred e) (λ e. cc) (is_same_ts_tree-decides s t)
+is_same_ts_tree-decides (pred s) (pred t) =
+    Decides-like _ (λ e. ap pred e) (λ e. cc) (is_same_ts_tree-decides s t)
 is_same_ts_tree-decides (action m is) (action n js) =
     Decides-like _ (λ e. (λ i. action (e.0 i) (e.1 i))) (λ e. (cc, cc))
     (Decides-and _ _ (Decides-eqb m n) (pointwise_decides is_same_idx-decides is js))

@@ -6,7 +6,10 @@ use Rattle.sq_term.specs.declared.term.Ts.TheFolds.{fold-Ts}
 use Rattle.sq_term.specs.declared.term.Term.{Term}
 use Rattle.sq_term.specs.declared.term.Term.TheOpen.{Term-F}
 use Rattle.sq_term.specs.declared.term.Term.TheFolds.{fold-Term}
-use Rattle.sq_term.specs.Syntax.{TsTree, free, bound, init, pred, action, TermTree, name, fun, macro, schema, diff, le, ts_eq, idx_eq, happens, all, some, find, TermTrees, nil, cons}
+use Rattle.sq_term.specs.Symbols.{kind_of}
+use Rattle.sq_term.specs.Syntax.{TsTree, free, bound, init, pred, action, TermTree, name, fun}
+use Rattle.sq_term.specs.Syntax.{macro, schema, diff, le, ts_eq, idx_eq, happens, all, some, find}
+use Rattle.sq_term.specs.Syntax.{TermTrees, nil, cons}
 
 abbrev pub ts_step : Ts-F TsTree → TsTree
 ts_step (Ts-F.Free n) = free n
@@ -25,7 +28,7 @@ row (t ∷ ts) = cons t (row ts)
 -- one level, with the trees of the parts
 abbrev pub term_step : Term-F TermTree → TermTree
 term_step (Term-F.Name n is) = name n is
-term_step (Term-F.Fun f is ts) = fun f is (row ts)
+term_step (Term-F.Fun f is ts) = fun (kind_of f) is (row ts)
 term_step (Term-F.Macro m t) = macro m (ts_tree t)
 term_step (Term-F.Schema n) = schema n
 term_step (Term-F.Diff a b) = diff a b

@@ -1,10 +1,13 @@
 -- Terms whose free variables are among the first n.
-use Rattle.std.specs.Prelude.{ℕ, ◌<◌, List, [], ◌∷◌, ◌++◌}
+use Rattle.std.specs.Prelude.{ℕ, ◌<◌, [], ◌∷◌, ◌++◌}
 use Rattle.sq_term.specs.declared.term.Idx.{Idx}
 use Rattle.sq_term.specs.declared.term.Idx.TheVariants.{Free, Bound}
 use Rattle.sq_term.specs.declared.model.Value.{Value}
 use Rattle.sq_term.specs.Lists.{Each}
-use Rattle.sq_term.specs.Syntax.{TsTree, free, bound, init, pred, action, TermTree, name, fun, macro, schema, diff, le, ts_eq, idx_eq, happens, all, some, find, TermTrees, nil, cons}
+use Rattle.sq_term.specs.Macros.{macro_indices}
+use Rattle.sq_term.specs.Syntax.{TsTree, free, bound, init, pred, action, TermTree, name, fun}
+use Rattle.sq_term.specs.Syntax.{macro, schema, diff, le, ts_eq, idx_eq, happens, all, some, find}
+use Rattle.sq_term.specs.Syntax.{TermTrees, nil, cons}
 use Rattle.sq_term.specs.Translate.{Assignment}
 
 abbrev pub IdxWithin : ℕ → Idx → Type 0
@@ -22,7 +25,7 @@ abbrev mutual
   pub IsWithin : ℕ → TermTree → Type 0
   IsWithin n (name k is) = Each (IdxWithin n) is
   IsWithin n (fun f is ts) = Each (IdxWithin n) is × AreWithin n ts
-  IsWithin n (macro m t) = TsWithin n t
+  IsWithin n (macro m t) = Each (IdxWithin n) (macro_indices m) × TsWithin n t
   IsWithin n (schema k) = Unit {0}
   IsWithin n (diff x y) = IsWithin n x × IsWithin n y
   IsWithin n (le t s) = TsWithin n t × TsWithin n s

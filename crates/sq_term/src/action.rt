@@ -2,8 +2,8 @@
 use crate::term::Term;
 use sq_base::Seq;
 
-/// A step of an action's path through its process: the side of a parallel, a replication, the branch
-/// of a test, a find that found this many indices or nothing, or a closed action.
+/// A step of an action's path through its process: the side of a parallel, a replication, the
+/// branch of a test, a find that found this many indices or nothing, or a closed action.
 #[derive(Clone, Copy, Debug, PartialEq, Eq)]
 pub enum PathStep {
     Side(bool),

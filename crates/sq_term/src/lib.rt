@@ -6,7 +6,10 @@ mod binders;
 mod builtin;
 mod copying;
 mod equality;
+pub mod formulas;
 mod ground;
+mod ground_equality;
+mod layout;
 mod measures;
 mod model;
 mod signature;
@@ -20,12 +23,11 @@ pub use builtin::Builtin;
 pub use copying::{copies, copy, copy_ts};
 pub use equality::{same, same_ts};
 pub use ground::GTerm;
+pub use ground_equality::same_ground;
+pub use layout::{Layout, Level};
 pub use measures::{depth, size, ts_depth, ts_size};
 pub use model::{Assign, Inst, Model, Value};
 pub use signature::{FunDecl, FunRole};
 pub use sq_base::{NoMemory, Seq, Sort, Text};
 pub use term::{Arg, Idx, Macro, Side, SizeFault, Term, Ts};
-pub use trace_formula::is_pure;
-
-#[cfg(test)]
-mod tests;
+pub use trace_formula::{is_binder_sort, is_pure};

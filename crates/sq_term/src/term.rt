@@ -3,7 +3,8 @@ use sq_base::{NoMemory, Seq, Sort};
 use sqlite_items::{Boxed, Items};
 use std::alloc::{AllocError, AllocFailed};
 
-/// Why a term could not be made: it would pass the room or the depth that it may have, or memory ran out.
+/// Why a term could not be made: it would pass the room or the depth that it may have, or memory
+/// ran out.
 #[derive(Clone, Copy, Debug, PartialEq, Eq)]
 pub enum SizeFault {
     TooLarge,

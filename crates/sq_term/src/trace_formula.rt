@@ -18,14 +18,16 @@ fn is_connective(function: u32, args: usize) -> bool
     }
 }
 
-fn is_trace_sort(sort: Sort) -> bool
-    ensures { result ≡ spec.is_trace_sort sort }
+/// Whether a quantifier may bind a variable of this sort: an index or a timestamp.
+pub fn is_binder_sort(sort: Sort) -> bool
+    ensures { result ≡ spec.is_binder_sort sort }
 {
     matches!(sort, Sort::Index | Sort::Timestamp)
 }
 
 /// Whether the term is a trace formula: built from the order and the equality of timestamps, the
-/// equality of indices, `happens`, the connectives and quantifiers over indices and timestamps alone.
+/// equality of indices, `happens`, the connectives and quantifiers over indices and timestamps
+/// alone.
 #[cycle(pure)]
 #[tactic(auto, using(crate::proofs::Connectives::pure_rules))]
 pub fn is_pure(t: &Term) -> bool
@@ -36,7 +38,7 @@ pub fn is_pure(t: &Term) -> bool
             is_connective(*f, args.len()) && indices.is_empty() && are_pure(args.as_slice())
         }
         Term::Le(_, _) | Term::TsEq(_, _) | Term::IdxEq(_, _) | Term::Happens(_) => true,
-        Term::Forall(sort, body) | Term::Exists(sort, body) => is_trace_sort(*sort)
+        Term::Forall(sort, body) | Term::Exists(sort, body) => is_binder_sort(*sort)
             && is_pure(body.get()),
         Term::Name(_, _) | Term::Macro(_, _) | Term::Schema(_) | Term::Diff(_, _) => false,
         Term::Find(_, _, _, _) => false,

@@ -3,4 +3,5 @@ use Rattle.sq_term.proofs.SameParts.{is_same_ts-decides}
 use Rattle.sq_term.proofs.ts_equality.TsPartialEq.eq.Goals as goal
 
 pub returns : goal.returns
-returns c = same_from_decides _ _ c.same_ts.ensures (is_same_ts-decides c.args.self.now c.args.other.now)
+returns c =
+    same_from_decides _ _ c.same_ts.ensures (is_same_ts-decides c.args.self.now c.args.other.now)
