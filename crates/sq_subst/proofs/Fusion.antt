@@ -1,7 +1,10 @@
--- Two maps of variables after each other are one, and a map that keeps each variable keeps the term.
+-- Two maps of variables after each other are one, and a map that keeps each variable keeps the
+-- term.
 use Rattle.std.proofs.Common.{◌≡◌, refl, ap, ℕ, ◌+◌, Bool, true, ◌&&◌, List, [], ◌∷◌, map}
 use Rattle.sq_term.specs.declared.term.Idx.{Idx}
-use Rattle.sq_term.specs.Syntax.{TsTree, free, bound, init, pred, action, TermTree, name, fun, macro, schema, diff, le, ts_eq, idx_eq, happens, all, some, find, TermTrees, nil, cons}
+use Rattle.sq_term.specs.Syntax.{TsTree, free, bound, init, pred, action, TermTree, name, fun}
+use Rattle.sq_term.specs.Syntax.{macro, schema, diff, le, ts_eq, idx_eq, happens, all, some, find}
+use Rattle.sq_term.specs.Syntax.{TermTrees, nil, cons}
 use Rattle.sq_subst.specs.Leaves.{Leaves, map_ts, map_term, map_terms}
 use Rattle.sq_subst.specs.Tests.{Tests, indices_pass, ts_passes, passes, all_pass}
 use Rattle.sq_subst.proofs.LeavesLaw.{first_of_both, second_of_both}
@@ -15,7 +18,8 @@ compose L K = record {
 }
 
 module _ (L K : Leaves) where
-  indices_fused : (m : ℕ) (is : List Idx) → map (L.index m) (map (K.index m) is) ≡ map ((compose L K).index m) is
+  indices_fused : (m : ℕ) (is : List Idx)
+      → map (L.index m) (map (K.index m) is) ≡ map ((compose L K).index m) is
   indices_fused m [] = refl
   indices_fused m (i ∷ is) = ap (λ js. L.index m (K.index m i) ∷ js) (indices_fused m is)
 
@@ -41,7 +45,8 @@ module _ (L K : Leaves) where
     fused m (some s t) = ap (some s) (fused (m + 1) t)
     fused m (find n c a b) = λ i. find n (fused (m + n) c i) (fused (m + n) a i) (fused m b i)
 
-    all_fused : (m : ℕ) (ts : TermTrees) → map_terms L m (map_terms K m ts) ≡ map_terms (compose L K) m ts
+    all_fused : (m : ℕ) (ts : TermTrees)
+        → map_terms L m (map_terms K m ts) ≡ map_terms (compose L K) m ts
     all_fused m nil = refl
     all_fused m (cons t ts) = λ i. cons (fused m t i) (all_fused m ts i)
 
@@ -52,7 +57,8 @@ module _ (L : Leaves) (P : Tests)
     (message : (m k : ℕ) → P.message m k ≡ true → L.message m k ≡ schema k) where
   indices_kept : (m : ℕ) (is : List Idx) → indices_pass P m is ≡ true → map (L.index m) is ≡ is
   indices_kept m [] h = refl
-  indices_kept m (i ∷ is) h = cc (index m i (first_of_both _ _ h), indices_kept m is (second_of_both (P.index m i) _ h))
+  indices_kept m (i ∷ is) h =
+      cc (index m i (first_of_both _ _ h), indices_kept m is (second_of_both (P.index m i) _ h))
 
   pub ts_kept : (m : ℕ) (t : TsTree) → ts_passes P m t ≡ true → map_ts L m t ≡ t
   ts_kept m (free k) h = free_time m k h
@@ -64,20 +70,35 @@ module _ (L : Leaves) (P : Tests)
   mutual
     pub kept : (m : ℕ) (t : TermTree) → passes P m t ≡ true → map_term L m t ≡ t
     kept m (name n is) h = ap (name n) (indices_kept m is h)
-    kept m (fun f is ts) h = cc (indices_kept m is (first_of_both _ _ h), all_kept m ts (second_of_both (indices_pass P m is) _ h))
+    kept m (fun f is ts) h =
+        cc (
+          indices_kept m is (first_of_both _ _ h),
+          all_kept m ts
+              (second_of_both (indices_pass P m is) _ h),
+        )
     kept m (macro x t) h = ap (macro x) (ts_kept m t h)
     kept m (schema k) h = message m k h
-    kept m (diff a b) h = cc (kept m a (first_of_both _ _ h), kept m b (second_of_both (passes P m a) _ h))
-    kept m (le t s) h = cc (ts_kept m t (first_of_both _ _ h), ts_kept m s (second_of_both (ts_passes P m t) _ h))
-    kept m (ts_eq t s) h = cc (ts_kept m t (first_of_both _ _ h), ts_kept m s (second_of_both (ts_passes P m t) _ h))
-    kept m (idx_eq i j) h = cc (index m i (first_of_both _ _ h), index m j (second_of_both (P.index m i) _ h))
+    kept m (diff a b) h =
+        cc (kept m a (first_of_both _ _ h), kept m b (second_of_both (passes P m a) _ h))
+    kept m (le t s) h =
+        cc (ts_kept m t (first_of_both _ _ h), ts_kept m s (second_of_both (ts_passes P m t) _ h))
+    kept m (ts_eq t s) h =
+        cc (ts_kept m t (first_of_both _ _ h), ts_kept m s (second_of_both (ts_passes P m t) _ h))
+    kept m (idx_eq i j) h =
+        cc (index m i (first_of_both _ _ h), index m j (second_of_both (P.index m i) _ h))
     kept m (happens t) h = ap happens (ts_kept m t h)
     kept m (all s t) h = ap (all s) (kept (m + 1) t h)
     kept m (some s t) h = ap (some s) (kept (m + 1) t h)
     kept m (find n c a b) h =
         let rest = second_of_both (passes P (m + n) c) _ h in
-        cc (kept (m + n) c (first_of_both _ _ h), kept (m + n) a (first_of_both _ _ rest), kept m b (second_of_both (passes P (m + n) a) _ rest))
+        cc (
+          kept (m + n) c (first_of_both _ _ h),
+          kept (m + n) a (first_of_both _ _ rest),
+          kept m b
+              (second_of_both (passes P (m + n) a) _ rest),
+        )
 
     all_kept : (m : ℕ) (ts : TermTrees) → all_pass P m ts ≡ true → map_terms L m ts ≡ ts
     all_kept m nil h = refl
-    all_kept m (cons t ts) h = cc (kept m t (first_of_both _ _ h), all_kept m ts (second_of_both (passes P m t) _ h))
+    all_kept m (cons t ts) h =
+        cc (kept m t (first_of_both _ _ h), all_kept m ts (second_of_both (passes P m t) _ h))

@@ -1,22 +1,30 @@
 -- One law for all maps of variables: where each variable keeps its value, so does the term.
-use Rattle.std.proofs.Common.{◌≡◌, refl, sym, ap, ◌∙◌, subst, ℕ, zero, suc, ◌+◌, List, [], ◌∷◌, ◌++◌, length, map, flat_map, get_or, Bool, true, false, cond, ◌&&◌, Option, Some, None, arith}
+use Rattle.std.proofs.Common.{◌≡◌, refl, sym, ap, ◌∙◌, subst, ℕ, zero, suc, ◌+◌, List, [], ◌∷◌}
+use Rattle.std.proofs.Common.{◌++◌, length, map, flat_map, get_or, Bool, true, false, cond, ◌&&◌}
+use Rattle.std.proofs.Common.{Option, Some, None, arith}
 use Rattle.sq_base.specs.declared.sort.Sort.{Sort}
 use Rattle.sq_base.specs.declared.sort.Sort.TheVariants.{Index}
 use Rattle.sq_term.specs.declared.term.Idx.{Idx}
 use Rattle.sq_term.specs.declared.model.Value.{Value}
 use Rattle.sq_term.specs.declared.model.Value.TheVariants.{Index as Number, Time as Moment}
-use Rattle.sq_term.specs.Lists.{Member, here, there, Each, fold_right}
-use Rattle.sq_term.specs.Symbols.{conditional}
-use Rattle.sq_term.specs.Syntax.{TsTree, free, bound, init, pred, action, TermTree, name, fun, macro, schema, diff, le, ts_eq, idx_eq, happens, all, some, find, TermTrees, nil, cons}
+use Rattle.sq_term.specs.Lists.{Each, fold_right}
+use Rattle.sq_term.proofs.Lists.{fold_same}
+use Rattle.sq_term.proofs.Members.{each-flat_map, each_single}
+use Rattle.sq_term.specs.Syntax.{TsTree, free, bound, init, pred, action, TermTree, name, fun}
+use Rattle.sq_term.specs.Syntax.{macro, schema, diff, le, ts_eq, idx_eq, happens, all, some, find}
+use Rattle.sq_term.specs.Syntax.{TermTrees, nil, cons}
 use Rattle.sq_term.specs.Ground.{Ground, named, atom}
-use Rattle.sq_term.specs.GroundFormulas.{ternary, truth_of, conj, disj_of_all}
-use Rattle.sq_term.specs.Translate.{World, Times, Assignment, number_of, time_of, before, is_position, idx_value, idx_values, ts_value, domain, choices, translate, translate_all}
+use Rattle.sq_term.specs.GroundFormulas.{conditional, truth_of, conj, disj_of_all}
+use Rattle.sq_term.specs.Translate.{World, Times, Assignment, number_of, time_of, before}
+use Rattle.sq_term.specs.Translate.{is_position, idx_value, idx_values, macro_value, ts_value}
+use Rattle.sq_term.specs.Translate.{domain, choices, translate, translate_all}
 use Rattle.sq_subst.specs.Leaves.{Leaves, map_ts, map_term, map_terms}
 use Rattle.sq_subst.specs.Tests.{Tests, indices_pass, ts_passes, passes, all_pass}
 
 -- ---- lists
 
-pub map_same : {A B : Type 0} (f g : A → B) (xs : List A) → ((x : A) → f x ≡ g x) → map f xs ≡ map g xs
+pub map_same : {A B : Type 0} (f g : A → B) (xs : List A) → ((x : A) → f x ≡ g x)
+    → map f xs ≡ map g xs
 map_same f g [] h = refl
 map_same f g (x ∷ xs) h = cc (h x, map_same f g xs h)
 
@@ -24,59 +32,55 @@ map-append : {A B : Type 0} (f : A → B) (xs ys : List A) → map f (xs ++ ys) 
 map-append f [] ys = refl
 map-append f (x ∷ xs) ys = ap (λ zs. f x ∷ zs) (map-append f xs ys)
 
-map-flat_map : {A B C : Type 0} (f : B → C) (g : A → List B) (xs : List A) → map f (flat_map g xs) ≡ flat_map (λ x. map f (g x)) xs
+map-flat_map : {A B C : Type 0} (f : B → C) (g : A → List B) (xs : List A)
+    → map f (flat_map g xs) ≡ flat_map (λ x. map f (g x)) xs
 map-flat_map f g [] = refl
-map-flat_map f g (x ∷ xs) = map-append f (g x) (flat_map g xs) ∙ ap (λ zs. map f (g x) ++ zs) (map-flat_map f g xs)
+map-flat_map f g (x ∷ xs) =
+    map-append f (g x) (flat_map g xs) ∙ ap (λ zs. map f (g x) ++ zs) (map-flat_map f g xs)
 
-flat_map_same : {A B : Type 0} (f g : A → List B) (xs : List A) → ((x : A) → f x ≡ g x) → flat_map f xs ≡ flat_map g xs
+flat_map_same : {A B : Type 0} (f g : A → List B) (xs : List A) → ((x : A) → f x ≡ g x)
+    → flat_map f xs ≡ flat_map g xs
 flat_map_same f g [] h = refl
 flat_map_same f g (x ∷ xs) h = cc (h x, flat_map_same f g xs h)
 
-fold-map : {A B C : Type 0} (h : A → B) (G : B → C → C) (xs : List A) (b : C) → fold_right G b (map h xs) ≡ fold_right (λ x r. G (h x) r) b xs
+fold-map : {A B C : Type 0} (h : A → B) (G : B → C → C) (xs : List A) (b : C)
+    → fold_right G b (map h xs) ≡ fold_right (λ x r. G (h x) r) b xs
 fold-map h G [] b = refl
 fold-map h G (x ∷ xs) b = ap (G (h x)) (fold-map h G xs b)
-
-pub fold_same_on : {A C : Type 0} (F G : A → C → C) (xs : List A) → ((x : A) → Member xs x → (r : C) → F x r ≡ G x r) → (b : C) → fold_right F b xs ≡ fold_right G b xs
-fold_same_on F G [] e b = refl
-fold_same_on F G (x ∷ xs) e b = ap (F x) (fold_same_on F G xs (λ y i. e y (there i)) b) ∙ e x here (fold_right G b xs)
-
-member_append : {A : Type 0} (xs ys : List A) (P : A → Type 0) → Each P xs → Each P ys → Each P (xs ++ ys)
-member_append [] ys P hx hy y i = hy y i
-member_append (x ∷ xs) ys P hx hy y here = hx y here
-member_append (x ∷ xs) ys P hx hy y (there i) = member_append xs ys P (λ z j. hx z (there j)) hy y i
-
-each-flat_map : {A B : Type 0} (f : A → List B) (xs : List A) (P : B → Type 0) → Each (λ x. Each P (f x)) xs → Each P (flat_map f xs)
-each-flat_map f [] P h y i = elim i [ ]
-each-flat_map f (x ∷ xs) P h y i = member_append (f x) (flat_map f xs) P (h x here) (each-flat_map f xs P (λ z j. h z (there j))) y i
-
-each_single : {A : Type 0} (x : A) (P : A → Type 0) → P x → Each P (x ∷ [])
-each_single x P h y here = h
-each_single x P h y (there i) = elim i [ ]
 
 -- ---- the choices of a find
 
 -- each before the values of the binders around
-choices_around : (w : Times) (c : ℕ) (xs bs : List Value) → choices w c (xs ++ bs) ≡ map (λ es. es ++ bs) (choices w c xs)
+choices_around : (w : Times) (c : ℕ) (xs bs : List Value)
+    → choices w c (xs ++ bs) ≡ map (λ es. es ++ bs) (choices w c xs)
 choices_around w zero xs bs = refl
 choices_around w (suc c) xs bs =
-    flat_map_same (λ x. choices w c ((x ∷ xs) ++ bs)) (λ x. map (λ es. es ++ bs) (choices w c (x ∷ xs))) (domain w Index) (λ x. choices_around w c (x ∷ xs) bs)
+    flat_map_same (λ x. choices w c ((x ∷ xs) ++ bs))
+    (λ x. map (λ es. es ++ bs) (choices w c (x ∷ xs))) (domain w Index)
+    (λ x. choices_around w c (x ∷ xs) bs)
     ∙ sym (map-flat_map (λ es. es ++ bs) (λ x. choices w c (x ∷ xs)) (domain w Index))
 
-choices_long : (w : Times) (c : ℕ) (xs : List Value) → Each (λ es. length es ≡ c + length xs) (choices w c xs)
+choices_long : (w : Times) (c : ℕ) (xs : List Value)
+    → Each (λ es. length es ≡ c + length xs) (choices w c xs)
 choices_long w zero xs = each_single xs (λ es. length es ≡ 0 + length xs) (omega arith)
-choices_long w (suc c) xs = each-flat_map (λ x. choices w c (x ∷ xs)) (domain w Index) (λ es. length es ≡ suc c + length xs) (λ x i es j. choices_long w c (x ∷ xs) es j ∙ omega arith)
+choices_long w (suc c) xs =
+    each-flat_map (λ x. choices w c (x ∷ xs)) (domain w Index) (λ es. length es ≡ suc c + length xs)
+    (λ x i es j. choices_long w c (x ∷ xs) es j ∙ omega arith)
 
 -- a find over the choices at bs, by those alone
 find_at : (w : Times) (c : ℕ) (bs : List Value) (F : List Value → Ground → Ground) (b : Ground)
     → fold_right F b (choices w c bs) ≡ fold_right (λ es r. F (es ++ bs) r) b (choices w c [])
-find_at w c bs F b = ap (fold_right F b) (choices_around w c [] bs) ∙ fold-map (λ es. es ++ bs) F (choices w c []) b
+find_at w c bs F b = ap (fold_right F b) (choices_around w c [] bs)
+    ∙ fold-map (λ es. es ++ bs) F (choices w c []) b
 
-pub find_law : (w : Times) (c : ℕ) (bs cs : List Value) (F G : List Value → Ground → Ground) (b d : Ground)
+pub find_law : (w : Times) (c : ℕ) (bs cs : List Value) (F G : List Value → Ground → Ground)
+    (b d : Ground)
     → ((es : List Value) → length es ≡ c → (r : Ground) → F (es ++ bs) r ≡ G (es ++ cs) r) → b ≡ d
     → fold_right F b (choices w c bs) ≡ fold_right G d (choices w c cs)
 find_law w c bs cs F G b d h e =
     find_at w c bs F b
-    ∙ (fold_same_on (λ es r. F (es ++ bs) r) (λ es r. G (es ++ cs) r) (choices w c []) (λ es i r. h es (choices_long w c [] es i ∙ omega arith) r) b
+    ∙ (fold_same (λ es r. F (es ++ bs) r) (λ es r. G (es ++ cs) r) (choices w c [])
+    (λ es i r. h es (choices_long w c [] es i ∙ omega arith) r) b
     ∙ (ap (λ x. fold_right (λ es r. G (es ++ cs) r) x (choices w c [])) e
     ∙ sym (find_at w c cs G d)))
 
@@ -92,21 +96,36 @@ second_of_both false q h = cc
 
 -- ---- the law
 
-module _ (L : Leaves) (P : Tests) (w : World) (a c : Assignment) (Rel : ℕ → List Value → List Value → Type 0)
+module _ (L : Leaves) (P : Tests) (w : World) (a c : Assignment)
+    (Rel : ℕ → List Value → List Value → Type 0)
     (push : (m : ℕ) (bs cs : List Value) (x : Value) → Rel m bs cs → Rel (m + 1) (x ∷ bs) (x ∷ cs))
-    (index : (m : ℕ) (bs cs : List Value) (i : Idx) → Rel m bs cs → P.index m i ≡ true → idx_value a bs i ≡ idx_value c cs (L.index m i))
-    (free_time : (m : ℕ) (bs cs : List Value) (k : ℕ) → Rel m bs cs → P.free_time m k ≡ true → time_of (get_or a.variables k (Moment None)) ≡ ts_value w.times c cs (L.free_time m k))
-    (bound_time : (m : ℕ) (bs cs : List Value) (k : ℕ) → Rel m bs cs → P.bound_time m k ≡ true → time_of (get_or bs k (Moment None)) ≡ ts_value w.times c cs (L.bound_time m k))
-    (message : (m : ℕ) (bs cs : List Value) (k : ℕ) → Rel m bs cs → P.message m k ≡ true → get_or a.schemas k (atom k) ≡ translate w c cs (L.message m k)) where
-  push_all : (es : List Value) (m : ℕ) (bs cs : List Value) → Rel m bs cs → Rel (m + length es) (es ++ bs) (es ++ cs)
+    (index : (m : ℕ) (bs cs : List Value) (i : Idx) → Rel m bs cs → P.index m i ≡ true
+    → idx_value a bs i ≡ idx_value c cs (L.index m i))
+    (free_time : (m : ℕ) (bs cs : List Value) (k : ℕ) → Rel m bs cs → P.free_time m k ≡ true
+    → time_of (get_or a.variables k (Moment None)) ≡ ts_value w.times c cs (L.free_time m k))
+    (bound_time : (m : ℕ) (bs cs : List Value) (k : ℕ) → Rel m bs cs → P.bound_time m k ≡ true
+    → time_of (get_or bs k (Moment None)) ≡ ts_value w.times c cs (L.bound_time m k))
+    (message : (m : ℕ) (bs cs : List Value) (k : ℕ) → Rel m bs cs → P.message m k ≡ true
+    → get_or a.schemas k (atom k) ≡ translate w c cs (L.message m k)) where
+  push_all : (es : List Value) (m : ℕ) (bs cs : List Value) → Rel m bs cs
+      → Rel (m + length es) (es ++ bs) (es ++ cs)
   push_all [] m bs cs r = subst (λ k. Rel k bs cs) (omega arith) r
-  push_all (e ∷ es) m bs cs r = subst (λ k. Rel k (e ∷ (es ++ bs)) (e ∷ (es ++ cs))) (omega arith) (push (m + length es) (es ++ bs) (es ++ cs) e (push_all es m bs cs r))
+  push_all (e ∷ es) m bs cs r =
+      subst (λ k. Rel k (e ∷ (es ++ bs)) (e ∷ (es ++ cs))) (omega arith)
+      (push (m + length es) (es ++ bs) (es ++ cs) e (push_all es m bs cs r))
 
-  indices_law : (m : ℕ) (bs cs : List Value) (is : List Idx) → Rel m bs cs → indices_pass P m is ≡ true → idx_values a bs is ≡ idx_values c cs (map (L.index m) is)
+  indices_law : (m : ℕ) (bs cs : List Value) (is : List Idx) → Rel m bs cs
+      → indices_pass P m is ≡ true → idx_values a bs is ≡ idx_values c cs (map (L.index m) is)
   indices_law m bs cs [] r h = refl
-  indices_law m bs cs (i ∷ is) r h = cc (index m bs cs i r (first_of_both _ _ h), indices_law m bs cs is r (second_of_both (P.index m i) _ h))
+  indices_law m bs cs (i ∷ is) r h =
+      cc (
+        index m bs cs i r (first_of_both _ _ h),
+        indices_law m bs cs is r
+            (second_of_both (P.index m i) _ h),
+      )
 
-  pub ts_law : (m : ℕ) (bs cs : List Value) (t : TsTree) → Rel m bs cs → ts_passes P m t ≡ true → ts_value w.times a bs t ≡ ts_value w.times c cs (map_ts L m t)
+  pub ts_law : (m : ℕ) (bs cs : List Value) (t : TsTree) → Rel m bs cs → ts_passes P m t ≡ true
+      → ts_value w.times a bs t ≡ ts_value w.times c cs (map_ts L m t)
   ts_law m bs cs (free k) r h = free_time m bs cs k r h
   ts_law m bs cs (bound k) r h = bound_time m bs cs k r h
   ts_law m bs cs init r h = refl
@@ -114,32 +133,75 @@ module _ (L : Leaves) (P : Tests) (w : World) (a c : Assignment) (Rel : ℕ → 
   ts_law m bs cs (action n is) r h = ap (w.times.place n) (indices_law m bs cs is r h)
 
   mutual
-    pub leaves_law : (t : TermTree) (m : ℕ) (bs cs : List Value) → Rel m bs cs → passes P m t ≡ true → translate w a bs t ≡ translate w c cs (map_term L m t)
+    pub leaves_law : (t : TermTree) (m : ℕ) (bs cs : List Value) → Rel m bs cs → passes P m t ≡ true
+        → translate w a bs t ≡ translate w c cs (map_term L m t)
     leaves_law (name n is) m bs cs r h = ap (named n) (indices_law m bs cs is r h)
-    leaves_law (fun f is ts) m bs cs r h = cc (indices_law m bs cs is r (first_of_both _ _ h), all_leaves_law ts m bs cs r (second_of_both (indices_pass P m is) _ h))
-    leaves_law (macro x t) m bs cs r h = ap (w.values x) (ts_law m bs cs t r h)
+    leaves_law (fun f is ts) m bs cs r h =
+        cc (
+          indices_law m bs cs is r (first_of_both _ _ h),
+          all_leaves_law ts m bs cs r
+              (second_of_both (indices_pass P m is) _ h),
+        )
+    leaves_law (macro x t) m bs cs r h = ap (w.values (macro_value a bs x)) (ts_law m bs cs t r h)
     leaves_law (schema k) m bs cs r h = message m bs cs k r h
-    leaves_law (diff x y) m bs cs r h = cc (leaves_law x m bs cs r (first_of_both _ _ h), leaves_law y m bs cs r (second_of_both (passes P m x) _ h))
-    leaves_law (le t s) m bs cs r h = cc (ts_law m bs cs t r (first_of_both _ _ h), ts_law m bs cs s r (second_of_both (ts_passes P m t) _ h))
-    leaves_law (ts_eq t s) m bs cs r h = cc (ts_law m bs cs t r (first_of_both _ _ h), ts_law m bs cs s r (second_of_both (ts_passes P m t) _ h))
-    leaves_law (idx_eq i j) m bs cs r h = cc (index m bs cs i r (first_of_both _ _ h), index m bs cs j r (second_of_both (P.index m i) _ h))
+    leaves_law (diff x y) m bs cs r h =
+        cc (
+          leaves_law x m bs cs r (first_of_both _ _ h),
+          leaves_law y m bs cs r
+              (second_of_both (passes P m x) _ h),
+        )
+    leaves_law (le t s) m bs cs r h =
+        cc (
+          ts_law m bs cs t r (first_of_both _ _ h),
+          ts_law m bs cs s r
+              (second_of_both (ts_passes P m t) _ h),
+        )
+    leaves_law (ts_eq t s) m bs cs r h =
+        cc (
+          ts_law m bs cs t r (first_of_both _ _ h),
+          ts_law m bs cs s r
+              (second_of_both (ts_passes P m t) _ h),
+        )
+    leaves_law (idx_eq i j) m bs cs r h =
+        cc (
+          index m bs cs i r (first_of_both _ _ h),
+          index m bs cs j r
+              (second_of_both (P.index m i) _ h),
+        )
     leaves_law (happens t) m bs cs r h = ap (λ y. truth_of (is_position y)) (ts_law m bs cs t r h)
-    leaves_law (all s body) m bs cs r h = ap conj (map_same _ _ (domain w.times s) (λ x. leaves_law body (m + 1) (x ∷ bs) (x ∷ cs) (push m bs cs x r) h))
-    leaves_law (some s body) m bs cs r h = ap disj_of_all (map_same _ _ (domain w.times s) (λ x. leaves_law body (m + 1) (x ∷ bs) (x ∷ cs) (push m bs cs x r) h))
+    leaves_law (all s body) m bs cs r h =
+        ap conj (map_same _ _ (domain w.times s)
+        (λ x. leaves_law body (m + 1) (x ∷ bs) (x ∷ cs) (push m bs cs x r) h))
+    leaves_law (some s body) m bs cs r h =
+        ap disj_of_all
+        (map_same _ _ (domain w.times s)
+        (λ x. leaves_law body (m + 1) (x ∷ bs) (x ∷ cs) (push m bs cs x r) h))
     leaves_law (find k test found other) m bs cs r h =
         let of_test = first_of_both (passes P (m + k) test) _ h in
         let rest = second_of_both (passes P (m + k) test) _ h in
         let of_found = first_of_both (passes P (m + k) found) _ rest in
         let of_other = second_of_both (passes P (m + k) found) _ rest in
         find_law w.times k bs cs
-        (λ xs r. ternary conditional (translate w a xs test) (translate w a xs found) r)
-        (λ xs r. ternary conditional (translate w c xs (map_term L (m + k) test)) (translate w c xs (map_term L (m + k) found)) r)
+        (λ xs r. conditional (translate w a xs test) (translate w a xs found) r)
+        (λ xs r. conditional (translate w c xs (map_term L (m + k) test))
+        (translate w c xs (map_term L (m + k) found)) r)
         (translate w a bs other) (translate w c cs (map_term L m other))
         (λ es e z.
-        let deep : Rel (m + k) (es ++ bs) (es ++ cs) = subst (λ n. Rel (m + n) (es ++ bs) (es ++ cs)) e (push_all es m bs cs r) in
-        cc (leaves_law test (m + k) (es ++ bs) (es ++ cs) deep of_test, leaves_law found (m + k) (es ++ bs) (es ++ cs) deep of_found))
+        let deep : Rel (m + k) (es ++ bs) (es ++ cs) =
+        subst (λ n. Rel (m + n) (es ++ bs) (es ++ cs)) e (push_all es m bs cs r) in
+        cc (
+          leaves_law test (m + k) (es ++ bs) (es ++ cs) deep of_test,
+          leaves_law found (m + k)
+              (es ++ bs) (es ++ cs) deep of_found,
+        ))
         (leaves_law other m bs cs r of_other)
 
-    pub all_leaves_law : (ts : TermTrees) (m : ℕ) (bs cs : List Value) → Rel m bs cs → all_pass P m ts ≡ true → translate_all w a bs ts ≡ translate_all w c cs (map_terms L m ts)
+    pub all_leaves_law : (ts : TermTrees) (m : ℕ) (bs cs : List Value) → Rel m bs cs
+        → all_pass P m ts ≡ true → translate_all w a bs ts ≡ translate_all w c cs (map_terms L m ts)
     all_leaves_law nil m bs cs r h = refl
-    all_leaves_law (cons t ts) m bs cs r h = cc (leaves_law t m bs cs r (first_of_both _ _ h), all_leaves_law ts m bs cs r (second_of_both (passes P m t) _ h))
+    all_leaves_law (cons t ts) m bs cs r h =
+        cc (
+          leaves_law t m bs cs r (first_of_both _ _ h),
+          all_leaves_law ts m bs cs r
+              (second_of_both (passes P m t) _ h),
+        )

@@ -1,10 +1,14 @@
--- Sizes and depths are at least 1, and a result has room exactly where both are within their limits.
-use Rattle.std.proofs.Common.{◌≡◌, ◌≤◌, ◌<◌, ◌+◌, ℕ, min, List, [], ◌∷◌, length, refl, arith, Bool, true, false, cond, ◌&&◌, nat_le, Result, Ok, Err}
+-- Sizes and depths are at least 1, and a result has room exactly where both are within their
+-- limits.
+use Rattle.std.proofs.Common.{◌≡◌, ◌≤◌, ◌<◌, ◌+◌, ℕ, min, List, [], ◌∷◌, length, refl, arith, Bool}
+use Rattle.std.proofs.Common.{true, false, cond, ◌&&◌, nat_le, Result, Ok, Err}
 use Rattle.std.proofs.lemmas.List.{length-map}
 use Rattle.std.proofs.lemmas.Bool.Decides.{nat_tests}
 use Rattle.sq_term.specs.declared.term.Idx.{Idx}
 use Rattle.sq_term.specs.declared.term.SizeFault.TheVariants.{TooLarge}
-use Rattle.sq_term.specs.Syntax.{TsTree, free, bound, init, pred, action, TermTree, name, fun, macro, schema, diff, le, ts_eq, idx_eq, happens, all, some, find, TermTrees, nil, cons}
+use Rattle.sq_term.specs.Syntax.{TsTree, free, bound, init, pred, action, TermTree, name, fun}
+use Rattle.sq_term.specs.Syntax.{macro, schema, diff, le, ts_eq, idx_eq, happens, all, some, find}
+use Rattle.sq_term.specs.Syntax.{TermTrees, nil, cons}
 use Rattle.sq_term.specs.Measure.{indices_depth, ts_size, ts_depth, size, depth}
 use Rattle.sq_term.proofs.Views.{tree_rules, open_rules}
 use Rattle.sq_subst.specs.Room.{fits, within}
@@ -59,9 +63,18 @@ depth-positive (find c test found other) = omega arith
 pub within-fits : (room : ℕ) (t : TermTree) → size t ≤ room → depth t ≤ 1024 → within room t ≡ Ok t
 within-fits room t s d = grind (arith, nat_tests)
 
-pub within-passes : (room : ℕ) (t : TermTree) → (size t ≤ room → 1024 < depth t) → within room t ≡ Err TooLarge
+pub within-passes : (room : ℕ) (t : TermTree) → (size t ≤ room → 1024 < depth t)
+    → within room t ≡ Err TooLarge
 within-passes room t h = grind (arith, nat_tests)
 
-pub ruleset room_rules = (tree_rules, indices_depth_is, ts_size-positive, ts_depth-positive, size-positive, depth-positive, length-map)
+pub ruleset room_rules = (
+  tree_rules,
+  indices_depth_is,
+  ts_size-positive,
+  ts_depth-positive,
+  size-positive,
+  depth-positive,
+  length-map,
+)
 
 pub ruleset put_rules = (open_rules, length-map)

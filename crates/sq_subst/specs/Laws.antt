@@ -1,5 +1,6 @@
 -- What the substitutions mean, in the words of translation.
-use Rattle.std.specs.Prelude.{◌≡◌, ℕ, [], ◌∷◌, List, map, Bool, true, false, ◌&&◌, not, ◌==◌, nat_lt, length, Option, Some, None, slice_get}
+use Rattle.std.specs.Prelude.{◌≡◌, ℕ, [], ◌∷◌, List, map, Bool, true, false, ◌&&◌, not, ◌==◌}
+use Rattle.std.specs.Prelude.{nat_lt, length, Option, Some, None, slice_get}
 use Rattle.sq_term.specs.declared.term.Idx.{Idx}
 use Rattle.sq_term.specs.declared.term.Idx.TheVariants.{Free, Bound}
 use Rattle.sq_term.specs.declared.term.Side.{Side}
@@ -46,10 +47,24 @@ is_other_idx x (Free k) = not (k == x)
 is_other_idx x (Bound k) = true
 
 abbrev pub at_no_time : ℕ → Tests
-at_no_time x = record { index = λ m i. true; free_time = λ m k. not (k == x); bound_time = λ m k. true; message = λ m k. true }
+at_no_time x =
+    record {
+      index = λ m i. true;
+      free_time = λ m k. not
+          (k == x);
+      bound_time = λ m k. true;
+      message = λ m k. true;
+    }
 
 abbrev pub at_no_index : ℕ → Tests
-at_no_index x = record { index = λ m i. is_other_idx x i; free_time = λ m k. true; bound_time = λ m k. true; message = λ m k. true }
+at_no_index x =
+    record {
+      index = λ m i. is_other_idx x i;
+      free_time = λ m k. true;
+      bound_time =
+          λ m k. true;
+      message = λ m k. true;
+    }
 
 -- a term without loose bound variables in which x has one sort comes back
 abbrev pub OpeningUndoesClosing : Type 0
@@ -62,9 +77,11 @@ OpeningUndoesClosing =
 abbrev pub ReplacingKeepsTheValue : Type 0
 ReplacingKeepsTheValue =
     (w : World) (a : Assignment) (t : TermTree)
-    → ((from to : TsTree) → ts_closed 0 from ≡ true → ts_closed 0 to ≡ true → ts_value w.times a [] from ≡ ts_value w.times a [] to
+    → ((from to : TsTree) → ts_closed 0 from ≡ true → ts_closed 0 to ≡ true
+    → ts_value w.times a [] from ≡ ts_value w.times a [] to
     → translate w a [] (ts_replaced from to t) ≡ translate w a [] t)
-    × ((from to : Idx) → idx_closed 0 from ≡ true → idx_closed 0 to ≡ true → idx_value a [] from ≡ idx_value a [] to
+    × ((from to : Idx) → idx_closed 0 from ≡ true → idx_closed 0 to ≡ true
+    → idx_value a [] from ≡ idx_value a [] to
     → translate w a [] (idx_replaced from to t) ≡ translate w a [] t)
 
 -- on its side a projection means what the term does
@@ -75,9 +92,11 @@ is_read_on Both w = true
 
 abbrev pub ProjectingKeepsTheSide : Type 0
 ProjectingKeepsTheSide =
-    (w : World) (a : Assignment) (side : Side) (t : TermTree) → is_read_on side w ≡ true → translate w a [] (projected side t) ≡ translate w a [] t
+    (w : World) (a : Assignment) (side : Side) (t : TermTree) → is_read_on side w ≡ true
+    → translate w a [] (projected side t) ≡ translate w a [] t
 
--- each variable has an argument of the sort of its place, each schema variable a term, and no bound variable is loose
+-- each variable has an argument of the sort of its place, each schema variable a term, and no bound
+-- variable is loose
 abbrev pub takes_index : Option ArgTree → Bool
 takes_index (Some (an_index i)) = true
 takes_index (Some (a_time t)) = false
@@ -102,11 +121,15 @@ reached vars schemas = record {
 
 -- the values of the arguments and the meanings of the terms
 abbrev pub instance_values : World → Assignment → List ArgTree → List TermTree → Assignment
-instance_values w a vars schemas = record { variables = map (arg_value w.times a) vars; schemas = map (translate w a []) schemas }
+instance_values w a vars schemas =
+    record { variables = map (arg_value w.times a) vars; schemas = map (translate w a []) schemas }
 
--- an instance means what the term does at the values of the arguments and the meanings of the terms, all at once
+-- an instance means what the term does at the values of the arguments and the meanings of the
+-- terms, all at once
 abbrev pub InstanceIsAtTheValues : Type 0
 InstanceIsAtTheValues =
     (w : World) (a : Assignment) (vars : List ArgTree) (schemas : List TermTree) (t : TermTree)
-    → args_closed vars ≡ true → terms_closed schemas ≡ true → passes (reached vars schemas) 0 t ≡ true
-    → translate w a [] (instance_of vars schemas t) ≡ translate w (instance_values w a vars schemas) [] t
+    → args_closed vars ≡ true → terms_closed schemas ≡ true
+    → passes (reached vars schemas) 0 t ≡ true
+    → translate w a [] (instance_of vars schemas t)
+    ≡ translate w (instance_values w a vars schemas) [] t

@@ -1,8 +1,12 @@
--- One walk that puts something in the place of each variable, with the number of binders around it. Opening, closing, renaming
+-- One walk that puts something in the place of each variable, with the number of binders around it.
+-- Opening, closing, renaming
 -- and instances are cases of it.
 use Rattle.std.specs.Prelude.{ℕ, suc, ◌+◌, map}
 use Rattle.sq_term.specs.declared.term.Idx.{Idx}
-use Rattle.sq_term.specs.Syntax.{TsTree, free, bound, init, pred, action, TermTree, name, fun, macro, schema, diff, le, ts_eq, idx_eq, happens, all, some, find, TermTrees, nil, cons}
+use Rattle.sq_term.specs.Macros.{macro_indices, macro_at}
+use Rattle.sq_term.specs.Syntax.{TsTree, free, bound, init, pred, action, TermTree, name, fun}
+use Rattle.sq_term.specs.Syntax.{macro, schema, diff, le, ts_eq, idx_eq, happens, all, some, find}
+use Rattle.sq_term.specs.Syntax.{TermTrees, nil, cons}
 
 pub record Leaves : Type 0 where
   pub index : ℕ → Idx → Idx
@@ -22,7 +26,7 @@ module _ (L : Leaves) where
     pub map_term : ℕ → TermTree → TermTree
     map_term m (name n is) = name n (map (L.index m) is)
     map_term m (fun f is ts) = fun f (map (L.index m) is) (map_terms m ts)
-    map_term m (macro x t) = macro x (map_ts m t)
+    map_term m (macro x t) = macro (macro_at x (map (L.index m) (macro_indices x))) (map_ts m t)
     map_term m (schema k) = L.message m k
     map_term m (diff a b) = diff (map_term m a) (map_term m b)
     map_term m (le t s) = le (map_ts m t) (map_ts m s)
@@ -31,7 +35,8 @@ module _ (L : Leaves) where
     map_term m (happens t) = happens (map_ts m t)
     map_term m (all s body) = all s (map_term (m + 1) body)
     map_term m (some s body) = some s (map_term (m + 1) body)
-    map_term m (find c test found other) = find c (map_term (m + c) test) (map_term (m + c) found) (map_term m other)
+    map_term m (find c test found other) =
+        find c (map_term (m + c) test) (map_term (m + c) found) (map_term m other)
 
     pub map_terms : ℕ → TermTrees → TermTrees
     map_terms m nil = nil

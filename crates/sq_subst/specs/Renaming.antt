@@ -1,8 +1,8 @@
 -- A free variable made bound, and an index in the place of another.
-use Rattle.std.specs.Prelude.{ℕ, Bool, if◌then◌else◌, ◌==◌}
+use Rattle.std.specs.Prelude.{ℕ, if◌then◌else◌, ◌==◌}
 use Rattle.sq_term.specs.declared.term.Idx.{Idx}
 use Rattle.sq_term.specs.declared.term.Idx.TheVariants.{Free, Bound}
-use Rattle.sq_term.specs.Syntax.{TsTree, free, bound, TermTree, schema}
+use Rattle.sq_term.specs.Syntax.{free, bound, TermTree, schema}
 use Rattle.sq_term.specs.TsEquality.{is_same_idx}
 use Rattle.sq_subst.specs.declared.rename.Renaming.{Renaming}
 use Rattle.sq_subst.specs.declared.rename.Renaming.TheVariants as how

@@ -1,6 +1,8 @@
 -- A timestamp or a term in the place of another, at each outermost place.
-use Rattle.std.specs.Prelude.{ℕ, Bool, if◌then◌else◌}
-use Rattle.sq_term.specs.Syntax.{TsTree, free, bound, init, pred, action, TermTree, name, fun, macro, schema, diff, le, ts_eq, idx_eq, happens, all, some, find, TermTrees, nil, cons}
+use Rattle.std.specs.Prelude.{if◌then◌else◌}
+use Rattle.sq_term.specs.Syntax.{TsTree, free, bound, init, pred, action, TermTree, name, fun}
+use Rattle.sq_term.specs.Syntax.{macro, schema, diff, le, ts_eq, idx_eq, happens, all, some, find}
+use Rattle.sq_term.specs.Syntax.{TermTrees, nil, cons}
 use Rattle.sq_term.specs.TsEquality.{is_same_ts_tree}
 use Rattle.sq_term.specs.TreeEquality.{is_same_tree}
 
@@ -28,7 +30,8 @@ abbrev mutual
   ts_replaced from to (happens t) = happens (ts_exchanged from to t)
   ts_replaced from to (all s body) = all s (ts_replaced from to body)
   ts_replaced from to (some s body) = some s (ts_replaced from to body)
-  ts_replaced from to (find c test found other) = find c (ts_replaced from to test) (ts_replaced from to found) (ts_replaced from to other)
+  ts_replaced from to (find c test found other) =
+      find c (ts_replaced from to test) (ts_replaced from to found) (ts_replaced from to other)
 
   pub ts_all_replaced : TsTree → TsTree → TermTrees → TermTrees
   ts_all_replaced from to nil = nil
@@ -40,18 +43,24 @@ term_or from to t other = if is_same_tree t from then to else other
 abbrev mutual
   pub term_replaced : TermTree → TermTree → TermTree → TermTree
   term_replaced from to (name n is) = term_or from to (name n is) (name n is)
-  term_replaced from to (fun f is ts) = term_or from to (fun f is ts) (fun f is (terms_replaced from to ts))
+  term_replaced from to (fun f is ts) =
+      term_or from to (fun f is ts) (fun f is (terms_replaced from to ts))
   term_replaced from to (macro x t) = term_or from to (macro x t) (macro x t)
   term_replaced from to (schema k) = term_or from to (schema k) (schema k)
-  term_replaced from to (diff a b) = term_or from to (diff a b) (diff (term_replaced from to a) (term_replaced from to b))
+  term_replaced from to (diff a b) =
+      term_or from to (diff a b) (diff (term_replaced from to a) (term_replaced from to b))
   term_replaced from to (le t s) = term_or from to (le t s) (le t s)
   term_replaced from to (ts_eq t s) = term_or from to (ts_eq t s) (ts_eq t s)
   term_replaced from to (idx_eq i j) = term_or from to (idx_eq i j) (idx_eq i j)
   term_replaced from to (happens t) = term_or from to (happens t) (happens t)
-  term_replaced from to (all s body) = term_or from to (all s body) (all s (term_replaced from to body))
-  term_replaced from to (some s body) = term_or from to (some s body) (some s (term_replaced from to body))
+  term_replaced from to (all s body) =
+      term_or from to (all s body) (all s (term_replaced from to body))
+  term_replaced from to (some s body) =
+      term_or from to (some s body) (some s (term_replaced from to body))
   term_replaced from to (find c test found other) =
-      term_or from to (find c test found other) (find c (term_replaced from to test) (term_replaced from to found) (term_replaced from to other))
+      term_or from to (find c test found other)
+      (find c (term_replaced from to test) (term_replaced from to found)
+      (term_replaced from to other))
 
   pub terms_replaced : TermTree → TermTree → TermTrees → TermTrees
   terms_replaced from to nil = nil
@@ -77,4 +86,5 @@ term_below from to (idx_eq i j) = idx_eq i j
 term_below from to (happens t) = happens t
 term_below from to (all s body) = all s (term_replaced from to body)
 term_below from to (some s body) = some s (term_replaced from to body)
-term_below from to (find c test found other) = find c (term_replaced from to test) (term_replaced from to found) (term_replaced from to other)
+term_below from to (find c test found other) =
+    find c (term_replaced from to test) (term_replaced from to found) (term_replaced from to other)

@@ -1,6 +1,8 @@
--- Arguments in the place of free variables, of variables that binders around the term would bind, and terms in the place of
+-- Arguments in the place of free variables, of variables that binders around the term would bind,
+-- and terms in the place of
 -- schema variables, all at once: what was put in is not looked at again.
-use Rattle.std.specs.Prelude.{ℕ, ◌-◌, map, List, [], ◌∷◌, Option, Some, None, slice_get, if◌then◌else◌, nat_le, unwrap_or}
+use Rattle.std.specs.Prelude.{ℕ, ◌-◌, map, List, [], ◌∷◌, Option, Some, None, slice_get}
+use Rattle.std.specs.Prelude.{if◌then◌else◌, nat_le, unwrap_or}
 use Rattle.sq_term.specs.declared.term.Idx.{Idx}
 use Rattle.sq_term.specs.declared.term.Idx.TheVariants.{Free, Bound}
 use Rattle.sq_term.specs.Syntax.{TsTree, free, bound, TermTree, schema}
@@ -8,7 +10,7 @@ use Rattle.sq_term.specs.declared.term.Arg.{Arg}
 use Rattle.sq_term.specs.declared.term.Term.{Term}
 use Rattle.sq_term.specs.View.{term_tree}
 use Rattle.sq_term.specs.Arguments.{ArgTree, an_index, a_time, arg_tree}
-use Rattle.sq_subst.specs.Leaves.{Leaves, map_ts, map_term}
+use Rattle.sq_subst.specs.Leaves.{Leaves, map_term}
 
 -- where the argument is of the other sort, or there is none, the variable stays
 abbrev pub index_or : Option ArgTree → Idx → Idx
@@ -21,7 +23,8 @@ time_or (Some (a_time t)) s = t
 time_or (Some (an_index i)) s = s
 time_or None s = s
 
--- the argument for bound variable k below m binders: the first is for the innermost of the binders around the term
+-- the argument for bound variable k below m binders: the first is for the innermost of the binders
+-- around the term
 abbrev pub past : List ArgTree → ℕ → ℕ → Option ArgTree
 past outer m k = if nat_le m k then slice_get outer (k - m) else None
 
@@ -47,4 +50,5 @@ instance_of vars schemas t = map_term (substitution vars [] schemas) 0 t
 
 -- the same, of the program's values
 abbrev pub put_in : List Arg → List Arg → List Term → Leaves
-put_in vars outer schemas = substitution (map arg_tree vars) (map arg_tree outer) (map term_tree schemas)
+put_in vars outer schemas =
+    substitution (map arg_tree vars) (map arg_tree outer) (map term_tree schemas)

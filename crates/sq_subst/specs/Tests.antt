@@ -1,7 +1,10 @@
 -- A test of each variable of a term, with the number of binders around it.
-use Rattle.std.specs.Prelude.{ℕ, suc, ◌+◌, Bool, true, ◌&&◌, List, [], ◌∷◌}
+use Rattle.std.specs.Prelude.{ℕ, ◌+◌, Bool, true, ◌&&◌, List, [], ◌∷◌}
 use Rattle.sq_term.specs.declared.term.Idx.{Idx}
-use Rattle.sq_term.specs.Syntax.{TsTree, free, bound, init, pred, action, TermTree, name, fun, macro, schema, diff, le, ts_eq, idx_eq, happens, all, some, find, TermTrees, nil, cons}
+use Rattle.sq_term.specs.Macros.{macro_indices}
+use Rattle.sq_term.specs.Syntax.{TsTree, free, bound, init, pred, action, TermTree, name, fun}
+use Rattle.sq_term.specs.Syntax.{macro, schema, diff, le, ts_eq, idx_eq, happens, all, some, find}
+use Rattle.sq_term.specs.Syntax.{TermTrees, nil, cons}
 
 pub record Tests : Type 0 where
   pub index : ℕ → Idx → Bool
@@ -25,7 +28,7 @@ module _ (P : Tests) where
     pub passes : ℕ → TermTree → Bool
     passes m (name n is) = indices_pass m is
     passes m (fun f is ts) = indices_pass m is && all_pass m ts
-    passes m (macro x t) = ts_passes m t
+    passes m (macro x t) = indices_pass m (macro_indices x) && ts_passes m t
     passes m (schema k) = P.message m k
     passes m (diff a b) = passes m a && passes m b
     passes m (le t s) = ts_passes m t && ts_passes m s
@@ -34,7 +37,8 @@ module _ (P : Tests) where
     passes m (happens t) = ts_passes m t
     passes m (all s body) = passes (m + 1) body
     passes m (some s body) = passes (m + 1) body
-    passes m (find c test found other) = passes (m + c) test && (passes (m + c) found && passes m other)
+    passes m (find c test found other) =
+        passes (m + c) test && (passes (m + c) found && passes m other)
 
     pub all_pass : ℕ → TermTrees → Bool
     all_pass m nil = true

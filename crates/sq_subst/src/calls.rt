@@ -25,7 +25,8 @@ use std::slice;
 /// The body with its outermost bound variable replaced. A place of the other sort stays as it is.
 #[tactic(auto, using(crate::proofs::CallRules::call_rules))]
 pub fn open_with(alloc: Global, body: &Term, with: &Arg, room: usize) -> Result<Term, SizeFault>
-    ensures { Gives NoMemory term_tree result (within room (opened (arg_tree with.now) (term_tree body.now))) }
+    ensures { Gives NoMemory term_tree result
+        (within room (opened (arg_tree with.now) (term_tree body.now))) }
 {
     let put = Put {
         vars: &[],
@@ -49,7 +50,8 @@ pub fn instance(
     room: usize,
 ) -> Result<Term, SizeFault>
     ensures { Gives NoMemory term_tree result
-        (within room (instance_of (map arg_tree vars.now) (map term_tree schemas.now) (term_tree t.now))) }
+        (within room
+        (instance_of (map arg_tree vars.now) (map term_tree schemas.now) (term_tree t.now))) }
 {
     let put = Put {
         vars,
@@ -77,7 +79,8 @@ pub fn replace_idx(
     to: &Idx,
     room: usize,
 ) -> Result<Term, SizeFault>
-    ensures { Gives NoMemory term_tree result (within room (idx_replaced from.now to.now (term_tree t.now))) }
+    ensures { Gives NoMemory term_tree result
+        (within room (idx_replaced from.now to.now (term_tree t.now))) }
 {
     renamed_within(alloc, Renaming::Exchange(*from, *to), t, room)
 }
@@ -85,7 +88,8 @@ pub fn replace_idx(
 // A renaming keeps the nodes and the depth.
 #[tactic(auto, using(crate::proofs::CallRules::renaming_rules))]
 fn renamed_within(alloc: Global, how: Renaming, t: &Term, room: usize) -> Result<Term, SizeFault>
-    ensures { Gives NoMemory term_tree result (within room (map_term (renaming how) 0 (term_tree t.now))) }
+    ensures { Gives NoMemory term_tree result
+        (within room (map_term (renaming how) 0 (term_tree t.now))) }
 {
     match term_room(t, room, MOST_LEVELS) {
         Some(_) => Ok(renamed(alloc, how, t, 0)?),

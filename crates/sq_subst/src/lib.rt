@@ -17,6 +17,3 @@ pub use meaning::{
     projecting_keeps_the_side, replacing_keeps_the_value,
 };
 pub use sq_term::SizeFault;
-
-#[cfg(test)]
-mod tests;

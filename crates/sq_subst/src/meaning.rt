@@ -1,5 +1,7 @@
 // The laws of the substitutions in the words of translation, each as the contract of a function.
-ghost use Rattle.sq_subst.specs.Laws.{OpeningIsTheValue, OpeningUndoesClosing, ReplacingKeepsTheValue, ProjectingKeepsTheSide, InstanceIsAtTheValues};
+ghost use Rattle.sq_subst.specs.Laws.{OpeningIsTheValue, OpeningUndoesClosing};
+ghost use Rattle.sq_subst.specs.Laws.{ReplacingKeepsTheValue, ProjectingKeepsTheSide};
+ghost use Rattle.sq_subst.specs.Laws.{InstanceIsAtTheValues};
 
 /// The opened body means what the body does with its variable at the argument's value.
 pub fn opening_is_the_value()

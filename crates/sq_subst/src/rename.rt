@@ -148,7 +148,8 @@ fn renamed_all(
     terms: &[Term],
     binders: u64,
 ) -> Result<Items<Term>, NoMemory>
-    ensures { IfOk result (λ r. term_trees r ≡ map_terms (renaming how) binders (term_trees terms.now)) }
+    ensures { IfOk result
+        (λ r. term_trees r ≡ map_terms (renaming how) binders (term_trees terms.now)) }
 {
     let mut out = Items::new(alloc);
     for term in terms {

@@ -1,5 +1,5 @@
-// How much room a term takes. Each call counts nodes down from those that there are, and levels from
-// those that a term may have, so that no sum can pass its type.
+// How much room a term takes. Each call counts nodes down from those that there are, and levels
+// from those that a term may have, so that no sum can pass its type.
 ghost use Rattle.std.specs.Prelude.{length};
 ghost use Rattle.sq_term.specs.View.{ts_tree, term_tree, term_trees};
 ghost use Rattle.sq_term.specs.Measure as measure;
@@ -24,7 +24,8 @@ pub fn indices_room(indices: &[Idx], nodes: usize, levels: u32) -> Option<usize>
 /// The nodes that the timestamp leaves, or None where it passes the nodes or the levels.
 #[tactic(auto, using(crate::proofs::Rooms::room_rules))]
 pub fn ts_room(t: &Ts, nodes: usize, levels: u32) -> Option<usize>
-    ensures { Spends (measure.ts_size (ts_tree t.now)) (measure.ts_depth (ts_tree t.now)) nodes levels result }
+    ensures { Spends (measure.ts_size (ts_tree t.now))
+        (measure.ts_depth (ts_tree t.now)) nodes levels result }
 {
     let nodes = nodes.checked_sub(1)?;
     let levels = levels.checked_sub(1)?;
@@ -39,7 +40,8 @@ pub fn ts_room(t: &Ts, nodes: usize, levels: u32) -> Option<usize>
 #[cycle(room)]
 #[tactic(auto, using(crate::proofs::Rooms::room_rules))]
 pub fn term_room(t: &Term, nodes: usize, levels: u32) -> Option<usize>
-    ensures { Spends (measure.size (term_tree t.now)) (measure.depth (term_tree t.now)) nodes levels result }
+    ensures { Spends (measure.size (term_tree t.now))
+        (measure.depth (term_tree t.now)) nodes levels result }
 {
     let nodes = nodes.checked_sub(1)?;
     let levels = levels.checked_sub(1)?;
@@ -72,7 +74,8 @@ pub fn term_room(t: &Term, nodes: usize, levels: u32) -> Option<usize>
 #[cycle(room)]
 #[tactic(auto, using(crate::proofs::Rooms::room_rules))]
 fn terms_room(terms: &[Term], nodes: usize, levels: u32) -> Option<usize>
-    ensures { Spends (measure.sizes (term_trees terms.now)) (measure.depths (term_trees terms.now)) nodes levels result }
+    ensures { Spends (measure.sizes (term_trees terms.now))
+        (measure.depths (term_trees terms.now)) nodes levels result }
 {
     let mut left = nodes;
     for term in terms {

@@ -14,7 +14,8 @@ use std::alloc::Global;
 #[cycle(side_room)]
 #[tactic(auto, using(crate::proofs::Rooms::room_rules))]
 pub fn side_room(left: bool, t: &Term, nodes: usize, levels: u32) -> Option<usize>
-    ensures { Spends (size (side_of left (term_tree t.now))) (depth (side_of left (term_tree t.now))) nodes levels result }
+    ensures { Spends (size (side_of left (term_tree t.now)))
+        (depth (side_of left (term_tree t.now))) nodes levels result }
 {
     match t {
         Term::Diff(a, b) => {
@@ -51,7 +52,8 @@ pub fn side_room(left: bool, t: &Term, nodes: usize, levels: u32) -> Option<usiz
 #[cycle(side_room)]
 #[tactic(auto, using(crate::proofs::Rooms::room_rules))]
 fn sides_room(left: bool, terms: &[Term], nodes: usize, levels: u32) -> Option<usize>
-    ensures { Spends (sizes (sides_of left (term_trees terms.now))) (depths (sides_of left (term_trees terms.now))) nodes levels result }
+    ensures { Spends (sizes (sides_of left (term_trees terms.now)))
+        (depths (sides_of left (term_trees terms.now))) nodes levels result }
 {
     let mut rest = nodes;
     for term in terms {

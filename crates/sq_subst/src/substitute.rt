@@ -31,7 +31,8 @@ fn index_at(args: &[Arg], at: u64, otherwise: Idx) -> Idx
 }
 
 fn put_idx(put: &Put, binders: u64, i: Idx) -> Idx
-    ensures { result ≡ put_index (map arg_tree put.now.vars.now) (map arg_tree put.now.outer.now) binders i }
+    ensures { result
+        ≡ put_index (map arg_tree put.now.vars.now) (map arg_tree put.now.outer.now) binders i }
 {
     match i {
         Idx::Free(k) => index_at(put.vars, u64::from(k), i),
@@ -52,7 +53,10 @@ fn put_indices(
     binders: u64,
     indices: &[Idx],
 ) -> Result<Seq<Idx>, NoMemory>
-    ensures { IfOk result (λ s. s ≡ map (put_index (map arg_tree put.now.vars.now) (map arg_tree put.now.outer.now) binders) indices.now) }
+    ensures { IfOk result
+        (λ s. s ≡ map
+        (put_index (map arg_tree put.now.vars.now)
+        (map arg_tree put.now.outer.now) binders) indices.now) }
 {
     let mut out = Seq::new(alloc);
     for i in indices {
@@ -63,7 +67,8 @@ fn put_indices(
 
 /// The timestamp at a place, or the given one where there is none.
 fn time_at<'a>(args: &'a [Arg], at: u64, otherwise: &'a Ts) -> &'a Ts
-    ensures { ts_tree result.now ≡ time_or (slice_get (map arg_tree args.now) at) (ts_tree otherwise.now) }
+    ensures { ts_tree result.now
+        ≡ time_or (slice_get (map arg_tree args.now) at) (ts_tree otherwise.now) }
 {
     match args.get(at as usize) {
         Some(Arg::Time(t)) => t,
@@ -73,7 +78,8 @@ fn time_at<'a>(args: &'a [Arg], at: u64, otherwise: &'a Ts) -> &'a Ts
 
 /// The timestamp for a variable that is not bound below, or the given one where there is none.
 fn time_past<'a>(args: &'a [Arg], binders: u64, k: u64, otherwise: &'a Ts) -> &'a Ts
-    ensures { ts_tree result.now ≡ time_or (past (map arg_tree args.now) binders k) (ts_tree otherwise.now) }
+    ensures { ts_tree result.now
+        ≡ time_or (past (map arg_tree args.now) binders k) (ts_tree otherwise.now) }
 {
     if binders <= k {
         time_at(args, k - binders, otherwise)
@@ -84,7 +90,8 @@ fn time_past<'a>(args: &'a [Arg], binders: u64, k: u64, otherwise: &'a Ts) -> &'
 
 /// The term at a place, or the given one where there is none.
 fn term_at<'a>(terms: &'a [Term], at: u32, otherwise: &'a Term) -> &'a Term
-    ensures { term_tree result.now ≡ unwrap_or (slice_get (map term_tree terms.now) at) (term_tree otherwise.now) }
+    ensures { term_tree result.now
+        ≡ unwrap_or (slice_get (map term_tree terms.now) at) (term_tree otherwise.now) }
 {
     match terms.get(at as usize) {
         Some(t) => t,
@@ -94,7 +101,11 @@ fn term_at<'a>(terms: &'a [Term], at: u32, otherwise: &'a Term) -> &'a Term
 
 #[tactic(auto, using(crate::proofs::Rooms::room_rules))]
 fn put_ts_room(put: &Put, t: &Ts, binders: u64, nodes: usize, levels: u32) -> Option<usize>
-    ensures { Spends (ts_size (map_ts (put_in put.now.vars.now put.now.outer.now put.now.schemas.now) binders (ts_tree t.now))) (ts_depth (map_ts (put_in put.now.vars.now put.now.outer.now put.now.schemas.now) binders (ts_tree t.now))) nodes levels result }
+    ensures { Spends
+        (ts_size (map_ts (put_in put.now.vars.now put.now.outer.now put.now.schemas.now) binders
+        (ts_tree t.now)))
+        (ts_depth (map_ts (put_in put.now.vars.now put.now.outer.now put.now.schemas.now) binders
+        (ts_tree t.now))) nodes levels result }
 {
     match t {
         Ts::Free(k) => ts_room(time_at(put.vars, u64::from(*k), t), nodes, levels),
@@ -115,7 +126,10 @@ fn put_ts_room(put: &Put, t: &Ts, binders: u64, nodes: usize, levels: u32) -> Op
 
 #[tactic(auto, using(crate::proofs::Rooms::room_rules))]
 fn put_ts(alloc: Global, put: &Put, t: &Ts, binders: u64) -> Result<Ts, NoMemory>
-    ensures { IfOk result (λ r. ts_tree r ≡ map_ts (put_in put.now.vars.now put.now.outer.now put.now.schemas.now) binders (ts_tree t.now)) }
+    ensures { IfOk result
+        (λ r. ts_tree r
+        ≡ map_ts (put_in put.now.vars.now put.now.outer.now put.now.schemas.now) binders
+        (ts_tree t.now)) }
 {
     match t {
         Ts::Free(k) => copy_ts(alloc, time_at(put.vars, u64::from(*k), t)),
@@ -137,8 +151,10 @@ fn put_ts(alloc: Global, put: &Put, t: &Ts, binders: u64) -> Result<Ts, NoMemory
 pub fn put_room(put: &Put, t: &Term, binders: u64, nodes: usize, levels: u32) -> Option<usize>
     requires room { binders + 4294967296 * levels < 18446744073709551616 }
     ensures { Spends
-        (size (map_term (put_in put.now.vars.now put.now.outer.now put.now.schemas.now) binders (term_tree t.now)))
-        (depth (map_term (put_in put.now.vars.now put.now.outer.now put.now.schemas.now) binders (term_tree t.now)))
+        (size (map_term (put_in put.now.vars.now put.now.outer.now put.now.schemas.now) binders
+        (term_tree t.now)))
+        (depth (map_term (put_in put.now.vars.now put.now.outer.now put.now.schemas.now) binders
+        (term_tree t.now)))
         nodes levels result }
 {
     if let Term::Schema(k) = t {
@@ -184,8 +200,10 @@ pub fn put_room(put: &Put, t: &Term, binders: u64, nodes: usize, levels: u32) ->
 fn put_all_room(put: &Put, terms: &[Term], binders: u64, nodes: usize, levels: u32) -> Option<usize>
     requires room { binders + 4294967296 * levels < 18446744073709551616 }
     ensures { Spends
-        (sizes (map_terms (put_in put.now.vars.now put.now.outer.now put.now.schemas.now) binders (term_trees terms.now)))
-        (depths (map_terms (put_in put.now.vars.now put.now.outer.now put.now.schemas.now) binders (term_trees terms.now)))
+        (sizes (map_terms (put_in put.now.vars.now put.now.outer.now put.now.schemas.now) binders
+        (term_trees terms.now)))
+        (depths (map_terms (put_in put.now.vars.now put.now.outer.now put.now.schemas.now) binders
+        (term_trees terms.now)))
         nodes levels result }
 {
     let mut left = nodes;
@@ -205,7 +223,10 @@ pub fn deeper(binders: u64, more: u32) -> Result<u64, NoMemory>
 #[cycle(put)]
 #[tactic(auto, using(crate::proofs::Rooms::put_rules))]
 pub fn put_term(alloc: Global, put: &Put, t: &Term, binders: u64) -> Result<Term, NoMemory>
-    ensures { IfOk result (λ r. term_tree r ≡ map_term (put_in put.now.vars.now put.now.outer.now put.now.schemas.now) binders (term_tree t.now)) }
+    ensures { IfOk result
+        (λ r. term_tree r
+        ≡ map_term (put_in put.now.vars.now put.now.outer.now put.now.schemas.now) binders
+        (term_tree t.now)) }
 {
     match t {
         Term::Name(n, is) => Ok(Term::Name(*n, put_indices(alloc, put, binders, is.as_slice())?)),
@@ -254,7 +275,10 @@ fn put_boxed(
     t: &Boxed<Term>,
     binders: u64,
 ) -> Result<Boxed<Term>, NoMemory>
-    ensures { IfOk result (λ r. term_tree r ≡ map_term (put_in put.now.vars.now put.now.outer.now put.now.schemas.now) binders (term_tree t.now)) }
+    ensures { IfOk result
+        (λ r. term_tree r
+        ≡ map_term (put_in put.now.vars.now put.now.outer.now put.now.schemas.now) binders
+        (term_tree t.now)) }
 {
     let inner = put_term(alloc, put, t.get(), binders)?;
     Ok(Boxed::new(alloc, inner)?)
@@ -263,7 +287,10 @@ fn put_boxed(
 #[cycle(put)]
 #[tactic(auto, using(crate::proofs::Rooms::put_rules))]
 fn put_all(alloc: Global, put: &Put, terms: &[Term], binders: u64) -> Result<Items<Term>, NoMemory>
-    ensures { IfOk result (λ r. term_trees r ≡ map_terms (put_in put.now.vars.now put.now.outer.now put.now.schemas.now) binders (term_trees terms.now)) }
+    ensures { IfOk result
+        (λ r. term_trees r
+        ≡ map_terms (put_in put.now.vars.now put.now.outer.now put.now.schemas.now) binders
+        (term_trees terms.now)) }
 {
     let mut out = Items::new(alloc);
     for term in terms {

@@ -28,8 +28,10 @@ fn is_term(a: &Term, b: &Term) -> bool
 #[tactic(auto, using(crate::proofs::Replaced::term_rules))]
 pub fn replaced_room(by: &ByTerm, t: &Term, nodes: usize, levels: u32) -> Option<usize>
     ensures { Spends
-        (size (term_replaced (term_tree by.now.from.now) (term_tree by.now.to.now) (term_tree t.now)))
-        (depth (term_replaced (term_tree by.now.from.now) (term_tree by.now.to.now) (term_tree t.now)))
+        (size (term_replaced (term_tree by.now.from.now) (term_tree by.now.to.now)
+        (term_tree t.now)))
+        (depth (term_replaced (term_tree by.now.from.now) (term_tree by.now.to.now)
+        (term_tree t.now)))
         nodes levels result }
 {
     if is_term(t, by.from) {
@@ -44,8 +46,10 @@ pub fn replaced_room(by: &ByTerm, t: &Term, nodes: usize, levels: u32) -> Option
 #[tactic(auto, using(crate::proofs::Replaced::term_rules))]
 fn part_room(by: &ByTerm, t: &Boxed<Term>, nodes: usize, levels: u32) -> Option<usize>
     ensures { Spends
-        (size (term_replaced (term_tree by.now.from.now) (term_tree by.now.to.now) (term_tree t.now)))
-        (depth (term_replaced (term_tree by.now.from.now) (term_tree by.now.to.now) (term_tree t.now)))
+        (size (term_replaced (term_tree by.now.from.now) (term_tree by.now.to.now)
+        (term_tree t.now)))
+        (depth (term_replaced (term_tree by.now.from.now) (term_tree by.now.to.now)
+        (term_tree t.now)))
         nodes levels result }
 {
     if is_term(t.get(), by.from) {
@@ -99,8 +103,10 @@ fn below_room(by: &ByTerm, t: &Term, nodes: usize, levels: u32) -> Option<usize>
 #[tactic(auto, using(crate::proofs::Replaced::term_rules))]
 fn parts_room(by: &ByTerm, terms: &[Term], nodes: usize, levels: u32) -> Option<usize>
     ensures { Spends
-        (sizes (terms_replaced (term_tree by.now.from.now) (term_tree by.now.to.now) (term_trees terms.now)))
-        (depths (terms_replaced (term_tree by.now.from.now) (term_tree by.now.to.now) (term_trees terms.now)))
+        (sizes (terms_replaced (term_tree by.now.from.now) (term_tree by.now.to.now)
+        (term_trees terms.now)))
+        (depths (terms_replaced (term_tree by.now.from.now) (term_tree by.now.to.now)
+        (term_trees terms.now)))
         nodes levels result }
 {
     let mut rest = nodes;
@@ -117,7 +123,9 @@ fn parts_room(by: &ByTerm, terms: &[Term], nodes: usize, levels: u32) -> Option<
 /// The term with each outermost `from` replaced.
 #[tactic(auto, using(crate::proofs::Replaced::term_rules))]
 pub fn replaced(alloc: Global, by: &ByTerm, t: &Term) -> Result<Term, NoMemory>
-    ensures { IfOk result (λ r. term_tree r ≡ term_replaced (term_tree by.now.from.now) (term_tree by.now.to.now) (term_tree t.now)) }
+    ensures { IfOk result
+        (λ r. term_tree r
+        ≡ term_replaced (term_tree by.now.from.now) (term_tree by.now.to.now) (term_tree t.now)) }
 {
     if is_term(t, by.from) {
         copy(alloc, by.to)
@@ -129,7 +137,9 @@ pub fn replaced(alloc: Global, by: &ByTerm, t: &Term) -> Result<Term, NoMemory>
 #[cycle(replace)]
 #[tactic(auto, using(crate::proofs::Replaced::term_rules))]
 fn replaced_part(alloc: Global, by: &ByTerm, t: &Boxed<Term>) -> Result<Boxed<Term>, NoMemory>
-    ensures { IfOk result (λ r. term_tree r ≡ term_replaced (term_tree by.now.from.now) (term_tree by.now.to.now) (term_tree t.now)) }
+    ensures { IfOk result
+        (λ r. term_tree r
+        ≡ term_replaced (term_tree by.now.from.now) (term_tree by.now.to.now) (term_tree t.now)) }
 {
     if is_term(t.get(), by.from) {
         let new = copy(alloc, by.to)?;
@@ -144,7 +154,9 @@ fn replaced_part(alloc: Global, by: &ByTerm, t: &Boxed<Term>) -> Result<Boxed<Te
 #[cycle(replace)]
 #[tactic(auto, using(crate::proofs::Rooms::put_rules))]
 fn replaced_below(alloc: Global, by: &ByTerm, t: &Term) -> Result<Term, NoMemory>
-    ensures { IfOk result (λ r. term_tree r ≡ term_below (term_tree by.now.from.now) (term_tree by.now.to.now) (term_tree t.now)) }
+    ensures { IfOk result
+        (λ r. term_tree r
+        ≡ term_below (term_tree by.now.from.now) (term_tree by.now.to.now) (term_tree t.now)) }
 {
     match t {
         Term::Fun(f, is, args) => {
@@ -170,7 +182,10 @@ fn replaced_below(alloc: Global, by: &ByTerm, t: &Term) -> Result<Term, NoMemory
 #[cycle(replace)]
 #[tactic(auto, using(crate::proofs::Replaced::term_rules))]
 fn replaced_parts(alloc: Global, by: &ByTerm, terms: &[Term]) -> Result<Items<Term>, NoMemory>
-    ensures { IfOk result (λ r. term_trees r ≡ terms_replaced (term_tree by.now.from.now) (term_tree by.now.to.now) (term_trees terms.now)) }
+    ensures { IfOk result
+        (λ r. term_trees r
+        ≡ terms_replaced (term_tree by.now.from.now) (term_tree by.now.to.now)
+        (term_trees terms.now)) }
 {
     let mut out = Items::new(alloc);
     for term in terms {

@@ -54,7 +54,9 @@ fn exchanged_ts_room(by: &ByTs, t: &Ts, nodes: usize, levels: u32) -> Option<usi
 
 #[tactic(auto, using(crate::proofs::Replaced::ts_rules))]
 fn ts_below(alloc: Global, by: &ByTs, t: &Ts) -> Result<Ts, NoMemory>
-    ensures { IfOk result (λ r. ts_tree r ≡ ts_below (ts_tree by.now.from.now) (ts_tree by.now.to.now) (ts_tree t.now)) }
+    ensures { IfOk result
+        (λ r. ts_tree r
+        ≡ ts_below (ts_tree by.now.from.now) (ts_tree by.now.to.now) (ts_tree t.now)) }
 {
     match t {
         Ts::Pred(inner) => {
@@ -72,7 +74,9 @@ fn ts_below(alloc: Global, by: &ByTs, t: &Ts) -> Result<Ts, NoMemory>
 
 #[tactic(auto, using(crate::proofs::Replaced::ts_rules))]
 fn exchanged_ts(alloc: Global, by: &ByTs, t: &Ts) -> Result<Ts, NoMemory>
-    ensures { IfOk result (λ r. ts_tree r ≡ ts_exchanged (ts_tree by.now.from.now) (ts_tree by.now.to.now) (ts_tree t.now)) }
+    ensures { IfOk result
+        (λ r. ts_tree r
+        ≡ ts_exchanged (ts_tree by.now.from.now) (ts_tree by.now.to.now) (ts_tree t.now)) }
 {
     if t == by.from {
         copy_ts(alloc, by.to)
@@ -127,8 +131,10 @@ pub fn ts_replaced_room(by: &ByTs, t: &Term, nodes: usize, levels: u32) -> Optio
 #[tactic(auto, using(crate::proofs::Rooms::room_rules))]
 fn ts_all_replaced_room(by: &ByTs, terms: &[Term], nodes: usize, levels: u32) -> Option<usize>
     ensures { Spends
-        (sizes (ts_all_replaced (ts_tree by.now.from.now) (ts_tree by.now.to.now) (term_trees terms.now)))
-        (depths (ts_all_replaced (ts_tree by.now.from.now) (ts_tree by.now.to.now) (term_trees terms.now)))
+        (sizes (ts_all_replaced (ts_tree by.now.from.now) (ts_tree by.now.to.now)
+        (term_trees terms.now)))
+        (depths (ts_all_replaced (ts_tree by.now.from.now) (ts_tree by.now.to.now)
+        (term_trees terms.now)))
         nodes levels result }
 {
     let mut rest = nodes;
@@ -142,7 +148,9 @@ fn ts_all_replaced_room(by: &ByTs, terms: &[Term], nodes: usize, levels: u32) ->
 #[cycle(replace_ts)]
 #[tactic(auto, using(crate::proofs::Rooms::put_rules))]
 pub fn ts_replaced(alloc: Global, by: &ByTs, t: &Term) -> Result<Term, NoMemory>
-    ensures { IfOk result (λ r. term_tree r ≡ ts_replaced (ts_tree by.now.from.now) (ts_tree by.now.to.now) (term_tree t.now)) }
+    ensures { IfOk result
+        (λ r. term_tree r
+        ≡ ts_replaced (ts_tree by.now.from.now) (ts_tree by.now.to.now) (term_tree t.now)) }
 {
     match t {
         Term::Name(_, _) | Term::Schema(_) | Term::IdxEq(_, _) => copy(alloc, t),
@@ -174,7 +182,9 @@ pub fn ts_replaced(alloc: Global, by: &ByTs, t: &Term) -> Result<Term, NoMemory>
 #[cycle(replace_ts)]
 #[tactic(auto, using(crate::proofs::Rooms::put_rules))]
 fn ts_replaced_boxed(alloc: Global, by: &ByTs, t: &Boxed<Term>) -> Result<Boxed<Term>, NoMemory>
-    ensures { IfOk result (λ r. term_tree r ≡ ts_replaced (ts_tree by.now.from.now) (ts_tree by.now.to.now) (term_tree t.now)) }
+    ensures { IfOk result
+        (λ r. term_tree r
+        ≡ ts_replaced (ts_tree by.now.from.now) (ts_tree by.now.to.now) (term_tree t.now)) }
 {
     let inner = ts_replaced(alloc, by, t.get())?;
     Ok(Boxed::new(alloc, inner)?)
@@ -183,7 +193,10 @@ fn ts_replaced_boxed(alloc: Global, by: &ByTs, t: &Boxed<Term>) -> Result<Boxed<
 #[cycle(replace_ts)]
 #[tactic(auto, using(crate::proofs::Rooms::put_rules))]
 fn ts_all_replaced(alloc: Global, by: &ByTs, terms: &[Term]) -> Result<Items<Term>, NoMemory>
-    ensures { IfOk result (λ r. term_trees r ≡ ts_all_replaced (ts_tree by.now.from.now) (ts_tree by.now.to.now) (term_trees terms.now)) }
+    ensures { IfOk result
+        (λ r. term_trees r
+        ≡ ts_all_replaced (ts_tree by.now.from.now) (ts_tree by.now.to.now)
+        (term_trees terms.now)) }
 {
     let mut out = Items::new(alloc);
     for term in terms {

@@ -4,4 +4,5 @@ use Rattle.sq_subst.specs.Projection.{side_of}
 use Rattle.sq_subst.proofs.sides.+side.Given as goal
 
 abbrev pub invariant-sides_of-loop-term : goal.invariant-sides_of-loop-term
-invariant-sides_of-loop-term l = map term_tree l.out ≡ map (λ t. side_of l.left (term_tree t)) (take l.term-index l.terms)
+invariant-sides_of-loop-term l =
+    map term_tree l.out ≡ map (λ t. side_of l.left (term_tree t)) (take l.term-index l.terms)
