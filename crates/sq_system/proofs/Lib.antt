@@ -2,3 +2,4 @@ pub mod Choices
 pub mod SystemLaws
 pub mod EnvLaws
 pub mod EnvPushes
+pub mod EnvFacts

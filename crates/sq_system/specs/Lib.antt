@@ -1,9 +1,9 @@
+pub mod Limits
 pub mod Sequents
 pub mod Facts
 pub mod Clashes
-pub mod Typing
-pub mod Functions
 pub mod Statements
 pub mod Environments
 pub mod Sizes
 pub mod WellFormed
+pub mod Usable

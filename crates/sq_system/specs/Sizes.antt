@@ -2,7 +2,9 @@
 use Rattle.std.specs.Prelude.{ℕ, ◌+◌, max, nat_le, Bool, true, ◌&&◌, List, [], ◌∷◌}
 use Rattle.sq_term.specs.Syntax.{TermTree}
 use Rattle.sq_term.specs.Measure.{size, depth}
-use Rattle.sq_system.specs.Sequents.{Item, item, SequentTree, trace, local, equiv}
+use Rattle.sq_system.specs.Limits.{most_nodes, most_depth}
+use Rattle.sq_system.specs.Sequents.{Item, item, Body, trace_body, local_body, equiv_body}
+use Rattle.sq_system.specs.Sequents.{SequentTree, sequent}
 
 abbrev pub all_size : List TermTree → ℕ
 all_size [] = 0
@@ -34,21 +36,27 @@ abbrev pub known_depth : List (List Item) → ℕ
 known_depth [] = 0
 known_depth (k ∷ ks) = max (items_depth k) (known_depth ks)
 
+abbrev pub body_size : Body → ℕ
+body_size (trace_body goal) = size goal
+body_size (local_body side goal) = size goal
+body_size (equiv_body known items) = known_size known + items_size items
+
+abbrev pub body_depth : Body → ℕ
+body_depth (trace_body goal) = depth goal
+body_depth (local_body side goal) = depth goal
+body_depth (equiv_body known items) = max (known_depth known) (items_depth items)
+
 -- the nodes of all its terms; variables are no nodes
 abbrev pub sequent_size : SequentTree → ℕ
-sequent_size (trace vars hyps goal) = all_size hyps + size goal
-sequent_size (local side vars hyps goal) = all_size hyps + size goal
-sequent_size (equiv vars hyps known items) = all_size hyps + (known_size known + items_size items)
+sequent_size (sequent vars hyps body) = all_size hyps + body_size body
 
 -- the greatest depth of its terms
 abbrev pub sequent_depth : SequentTree → ℕ
-sequent_depth (trace vars hyps goal) = max (all_depth hyps) (depth goal)
-sequent_depth (local side vars hyps goal) = max (all_depth hyps) (depth goal)
-sequent_depth (equiv vars hyps known items) = max (all_depth hyps) (max (known_depth known) (items_depth items))
+sequent_depth (sequent vars hyps body) = max (all_depth hyps) (body_depth body)
 
--- a sequent inside a derivation has at most 8,388,608 nodes and depth 1,024
+-- a sequent inside a derivation is no larger
 abbrev pub fits : SequentTree → Bool
-fits s = nat_le (sequent_size s) 8388608 && nat_le (sequent_depth s) 1024
+fits s = nat_le (sequent_size s) most_nodes && nat_le (sequent_depth s) most_depth
 
 abbrev pub all_fit : List SequentTree → Bool
 all_fit [] = true

@@ -1,65 +1,73 @@
 -- Well-formed sequents, statements and environments.
-use Rattle.std.specs.Prelude.{ℕ, List, [], map, length, replicate, slice_get, Option, Some, None, Bool, true, false, ◌&&◌, ◌||◌, ◌==◌, not}
+use Rattle.std.specs.Prelude.{◌≡◌, ℕ, nat_le, List, [], map, length, replicate, slice_get, Option}
+use Rattle.std.specs.Prelude.{Some, None, Bool, true, false, ◌&&◌, ◌||◌, ◌==◌}
 use Rattle.std.specs.List.{list_all}
 use Rattle.sq_base.specs.declared.sort.Sort.{Sort}
 use Rattle.sq_base.specs.declared.sort.Sort.TheVariants.{Message, Boolean, Index}
-use Rattle.sq_term.specs.declared.term.Side.{Side}
 use Rattle.sq_term.specs.declared.term.Side.TheVariants.{Left, Right, Both}
-use Rattle.sq_term.specs.Pure.{is_pure}
+use Rattle.sq_term.specs.Lists.{Each}
+use Rattle.sq_term.specs.Pure.{is_binder_sort}
 use Rattle.sq_term.specs.Syntax.{TermTree}
-use Rattle.sq_term.specs.Systems.{ActionTree}
+use Rattle.sq_term.specs.Systems.{ActionTree, SystemTree}
+use Rattle.sq_typing.specs.Functions.{are_functions}
+use Rattle.sq_typing.specs.Standing.{Subject, of_trace, of_side, may_stand}
+use Rattle.sq_typing.specs.Typing.{Signature, has_sort, binds_indices}
 use Rattle.sq_system.specs.declared.env.StmtKind.{StmtKind}
 use Rattle.sq_system.specs.declared.env.StmtKind.TheVariants.{Axiom, Lemma, Equiv}
-use Rattle.sq_system.specs.Functions.{are_functions}
+use Rattle.sq_system.specs.Facts.{IsSystem, AreShallow}
+use Rattle.sq_system.specs.Limits.{most_entries}
 use Rattle.sq_system.specs.Statements.{StmtTree, EnvTree}
-use Rattle.sq_system.specs.Facts.{holds_diff}
-use Rattle.sq_system.specs.Sequents.{Item, item, SequentTree, trace, local, equiv}
+use Rattle.sq_system.specs.Sequents.{Item, item, Body, trace_body, local_body, equiv_body}
+use Rattle.sq_system.specs.Sequents.{SequentTree, sequent, local, equiv, vars_of}
 use Rattle.sq_system.specs.Sizes.{fits}
-use Rattle.sq_system.specs.Typing.{Signature, is_binder_sort, has_sort, binds_indices}
 
 -- what the terms of a system may speak of, with these schema variables and over these variables
-abbrev pub signature_of : EnvTree → List ActionTree → ℕ → List Sort → Signature
-signature_of e actions schemas vars = record { names = e.names; funs = e.funs; actions = map (λ a. a.arity) actions; schemas = schemas; vars = vars }
+abbrev pub signature_of : EnvTree → SystemTree → ℕ → List Sort → Signature
+signature_of e s schemas vars =
+    record {
+      names = e.names;
+      funs = e.funs;
+      actions = map (λ a. a.arity) s.actions;
+      schemas = schemas;
+      vars = vars;
+    }
 
--- a formula of the signature, over its variables alone
-abbrev pub is_formula : Signature → TermTree → Bool
-is_formula g t = has_sort g [] Boolean t
+-- what the hypotheses beside a body speak of: those of an equivalence of the trace alone
+abbrev pub subject_of : Body → Subject
+subject_of (trace_body goal) = of_trace
+subject_of (local_body side goal) = of_side side
+subject_of (equiv_body known items) = of_trace
 
-abbrev pub is_trace_formula : Signature → TermTree → Bool
-is_trace_formula g t = is_formula g t && is_pure t
-
--- in a local sequent of one side stands no `diff`
-abbrev pub is_local_formula : Signature → Side → TermTree → Bool
-is_local_formula g Both t = is_formula g t
-is_local_formula g Left t = is_formula g t && not (holds_diff t)
-is_local_formula g Right t = is_formula g t && not (holds_diff t)
-
+-- each side may stand on that side
 abbrev pub has_both_sorts : Signature → Sort → Item → Bool
-has_both_sorts g s (item a b) = (has_sort g [] s a && not (holds_diff a)) && (has_sort g [] s b && not (holds_diff b))
+has_both_sorts g s (item a b) = may_stand g (of_side Left) s a && may_stand g (of_side Right) s b
 
--- the two sides have one sort and hold no `diff`
+-- the two sides have one sort
 abbrev pub is_item : Signature → Item → Bool
 is_item g i = has_both_sorts g Message i || has_both_sorts g Boolean i
 
--- each term meets what is asked of it in its place
-abbrev pub is_sorted : Signature → SequentTree → Bool
-is_sorted g (trace vars hyps goal) = list_all (is_trace_formula g) hyps && is_trace_formula g goal
-is_sorted g (local side vars hyps goal) = list_all (is_local_formula g side) hyps && is_local_formula g side goal
-is_sorted g (equiv vars hyps known items) = list_all (is_trace_formula g) hyps && (list_all (list_all (is_item g)) known && list_all (is_item g) items)
+abbrev pub is_sorted_body : Signature → Body → Bool
+is_sorted_body g (trace_body goal) = may_stand g of_trace Boolean goal
+is_sorted_body g (local_body side goal) = may_stand g (of_side side) Boolean goal
+is_sorted_body g (equiv_body known items) =
+    list_all (list_all (is_item g)) known && list_all (is_item g) items
 
-abbrev pub vars_of : SequentTree → List Sort
-vars_of (trace vars hyps goal) = vars
-vars_of (local side vars hyps goal) = vars
-vars_of (equiv vars hyps known items) = vars
+-- each term may stand in its place
+abbrev pub is_sorted : Signature → SequentTree → Bool
+is_sorted g (sequent vars hyps body) =
+    list_all (may_stand g (subject_of body) Boolean) hyps && is_sorted_body g body
 
 -- a sequent of a statement with this system and so many schema variables
-abbrev pub is_sequent_of : EnvTree → Option (List ActionTree) → ℕ → SequentTree → Bool
+abbrev pub is_sequent_of : EnvTree → Option SystemTree → ℕ → SequentTree → Bool
 is_sequent_of e None schemas s = false
-is_sequent_of e (Some actions) schemas s = list_all is_binder_sort (vars_of s) && (is_sorted (signature_of e actions schemas (vars_of s)) s && fits s)
+is_sequent_of e (Some system) schemas s =
+    list_all is_binder_sort (vars_of s)
+    && (is_sorted (signature_of e system schemas (vars_of s)) s && fits s)
 
 abbrev pub is_well_formed_for : EnvTree → Option StmtTree → SequentTree → Bool
 is_well_formed_for e None s = false
-is_well_formed_for e (Some g) s = is_sequent_of e (slice_get e.systems g.system) (length g.schemas) s
+is_well_formed_for e (Some g) s =
+    is_sequent_of e (slice_get e.systems g.system) (length g.schemas) s
 
 -- the sequent is well-formed for the goal with this number
 abbrev pub is_well_formed : EnvTree → ℕ → SequentTree → Bool
@@ -83,20 +91,37 @@ starts_as Equiv schemas s = (schemas == 0) && starts_equiv s
 abbrev pub is_statement : EnvTree → StmtTree → Bool
 is_statement e g =
     is_sequent_of e (slice_get e.systems g.system) (length g.schemas) g.start
-    && ((length g.vars == length (vars_of g.start)) && starts_as g.kind (length g.schemas) g.start)
+    && ((length g.vars == length (vars_of g.start))
+    && starts_as g.kind (length g.schemas) g.start)
 
--- a condition or an output: well-sorted over the action's indices, with quantifiers over indices alone
+-- a condition or an output: well-sorted over the action's indices, quantifiers over indices alone
 abbrev pub is_body : Signature → Sort → TermTree → Bool
 is_body g s t = has_sort g [] s t && binds_indices t
 
-abbrev pub are_bodies : EnvTree → List ActionTree → ActionTree → Bool
-are_bodies e actions a =
-    is_body (signature_of e actions 0 (replicate a.arity Index)) Boolean a.cond
-    && is_body (signature_of e actions 0 (replicate a.arity Index)) Message a.output
+abbrev pub are_bodies : EnvTree → SystemTree → ActionTree → Bool
+are_bodies e s a =
+    is_body (signature_of e s 0 (replicate a.arity Index)) Boolean a.cond
+    && is_body (signature_of e s 0 (replicate a.arity Index)) Message a.output
 
-abbrev pub is_well_sorted : EnvTree → List ActionTree → Bool
-is_well_sorted e actions = list_all (are_bodies e actions) actions
+abbrev pub is_well_sorted : EnvTree → SystemTree → Bool
+is_well_sorted e s = list_all (are_bodies e s) s.actions
+
+-- each list has no more entries than numbers
+abbrev pub are_numbered : EnvTree → Bool
+are_numbered e =
+    nat_le (length e.names) most_entries
+    && (nat_le (length e.funs) most_entries
+    && (nat_le (length e.systems) most_entries && nat_le (length e.stmts) most_entries))
+
+-- what a test can say of what every environment keeps
+unfoldable pub is_environment : EnvTree → Bool
+is_environment e =
+    are_numbered e
+    && (are_functions e.funs
+    && (list_all (is_well_sorted e) e.systems && list_all (is_statement e) e.stmts))
 
 -- what every environment keeps
-unfoldable pub is_environment : EnvTree → Bool
-is_environment e = are_functions e.funs && (list_all (is_well_sorted e) e.systems && list_all (is_statement e) e.stmts)
+pub record IsEnvironment (e : EnvTree) : Type 0 where
+  pub well_formed : is_environment e ≡ true
+  pub systems : Each IsSystem e.systems
+  pub shallow : Each AreShallow e.systems

@@ -1,6 +1,8 @@
 // Which instances of actions exclude each other.
-ghost use Rattle.std.specs.Prelude.{◌≡◌, ◌≤◌, ◌<◌, ◌+◌, ◌^◌, sum_by, option_map, slice_get, cond, length, [], ◌∷◌};
-ghost use Rattle.sq_term.specs.Systems.{indices_bound, same_step, is_choice as spec_is_choice, choices_from, in_conflict as spec_in_conflict, clash};
+ghost use Rattle.std.specs.Prelude.{◌≡◌, ◌≤◌, ◌<◌, ◌+◌, ◌^◌, sum_by, option_map, slice_get};
+ghost use Rattle.std.specs.Prelude.{if◌then◌else◌, length, [], ◌∷◌};
+ghost use Rattle.sq_term.specs.Systems as spec;
+ghost use Rattle.sq_term.specs.Systems.{indices_bound, same_step};
 ghost use Rattle.sq_term.specs.Lists.{same_numbers};
 ghost use Rattle.sq_system.specs.Clashes.{choice_of, indices_found};
 
@@ -41,7 +43,7 @@ fn is_same(s: PathStep, t: PathStep) -> bool
 }
 
 fn is_choice(s: PathStep, t: PathStep) -> bool
-    ensures { result ≡ spec_is_choice s t }
+    ensures { result ≡ spec.is_choice s t }
 {
     match (s, t) {
         (PathStep::Branch(_), PathStep::Branch(_))
@@ -64,7 +66,9 @@ fn found(step: PathStep) -> u32
 
 // The choice number `before` where two paths part.
 fn parting(s: PathStep, t: PathStep, agree: u32, before: u32) -> Option<Clash>
-    ensures { option_map choice_of result ≡ slice_get (cond (spec_is_choice s t) (record { agree = agree; differ = 0 } ∷ []) []) before }
+    ensures { option_map choice_of result
+        ≡ slice_get
+        (if spec.is_choice s t then record { agree = agree; differ = 0 } ∷ [] else []) before }
 {
     if is_choice(s, t) && before == 0 {
         Some(Clash { agree, differ: 0 })
@@ -76,7 +80,7 @@ fn parting(s: PathStep, t: PathStep, agree: u32, before: u32) -> Option<Clash>
 /// The choice number `k` on the common path of `p` and `q`.
 pub fn nth_choice(p: &[PathStep], q: &[PathStep], k: u32) -> Option<Clash>
     requires { sum_by indices_bound p.now < 2 ^ 32 }
-    ensures { option_map choice_of result ≡ clash p.now q.now k }
+    ensures { option_map choice_of result ≡ spec.clash p.now q.now k }
 {
     let mut agree: u32 = 0;
     let mut before = k;
@@ -107,7 +111,7 @@ pub fn nth_choice(p: &[PathStep], q: &[PathStep], k: u32) -> Option<Clash>
 pub fn in_conflict(p: &[PathStep], is: &[u32], q: &[PathStep], js: &[u32]) -> bool
     requires first { sum_by indices_bound p.now ≤ length is.now }
     requires second { sum_by indices_bound q.now ≤ length js.now }
-    ensures { result ≡ spec_in_conflict p.now is.now q.now js.now }
+    ensures { result ≡ spec.in_conflict p.now is.now q.now js.now }
 {
     let mut left = p;
     let mut left_indices = is;

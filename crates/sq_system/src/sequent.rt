@@ -11,8 +11,8 @@ pub struct Both {
 /// What is to be shown. `Free(k)` in its terms is variable k of `vars`.
 ///
 /// A Trace sequent speaks of the trace alone. A Local sequent speaks of one side or of both. An
-/// Equiv sequent has hypotheses on the trace, lists of items that are known to be indistinguishable,
-/// and the items to be shown so.
+/// Equiv sequent has hypotheses on the trace, lists of items that are known to be
+/// indistinguishable, and the items to be shown so.
 #[derive(Debug, Drop)]
 pub enum Sequent {
     Trace {

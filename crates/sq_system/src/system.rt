@@ -1,15 +1,19 @@
 // The actions of a protocol.
-ghost use Rattle.std.specs.Prelude.{◌≡◌, ◌↔◌, sum_by, ◌<◌, ◌+◌, [], ◌∷◌, ◌++◌, length, slice_get, option_map, IfOk, OnErr, IsErrOf};
+ghost use Rattle.std.specs.Prelude.{◌≡◌, ◌↔◌, sum_by, ◌<◌, ◌+◌, [], ◌∷◌, ◌++◌, length, slice_get};
+ghost use Rattle.std.specs.Prelude.{option_map, IfOk, OnErr, IsErrOf};
 ghost use Rattle.std.specs.List.{list_any};
 ghost use Rattle.std.specs.Option.{option_copied};
-ghost use Rattle.sq_term.specs.Systems.{action_tree, action_trees, in_conflict as spec_in_conflict, is_separated, choices_from, clash, indices_bound};
+ghost use Rattle.sq_term.specs.Systems as spec;
+ghost use Rattle.sq_term.specs.Systems.{action_tree, system_tree, is_separated, choices_from};
+ghost use Rattle.sq_term.specs.Systems.{indices_bound};
 ghost use Rattle.sq_system.specs.Clashes.{choice_of};
-ghost use Rattle.sq_system.specs.Facts.{IsAction, KeepsFacts, some_diff, parent_of, path_of, arity_of};
+ghost use Rattle.sq_system.specs.Facts.{IsAction, IsShallow, KeepsFacts, some_diff};
+ghost use Rattle.sq_system.specs.Facts.{parent_of, path_of, arity_of};
 
 use crate::clash::{Clash, in_conflict, nth_choice};
-use crate::diff::action_holds_diff;
 use sq_base::Seq;
 use sq_term::{Action, PathStep};
+use sq_typing::holds_diff;
 use std::alloc::Global;
 use std::marker::Model;
 
@@ -35,12 +39,20 @@ impl Model for System {
 
     ghost coded = { Prim.hlevel (codes, action.the_row.coded, term.the_row.coded) };
 
-    ghost use Rattle.sq_term.specs.Systems.{action_trees};
+    ghost use Rattle.sq_term.specs.Systems.{system_tree};
     ghost use Rattle.sq_system.specs.Facts.{KeepsFacts, some_diff};
 
     ghost view = { λ s. s.actions };
 
-    ghost invariant = { λ s. KeepsFacts s.actions × (s.has_diff ≡ some_diff (action_trees s.actions)) };
+    ghost invariant = { λ s. KeepsFacts s.actions
+        × (s.has_diff ≡ some_diff (system_tree s.actions)) };
+}
+
+// Whether the action's condition or its output holds a `Diff`.
+fn action_holds_diff(a: &Action) -> bool
+    ensures { result ≡ Rattle.sq_system.specs.Facts.action_holds_diff (action_tree a.now) }
+{
+    holds_diff(&a.cond) | holds_diff(&a.output)
 }
 
 /// Why an action was not added.
@@ -61,9 +73,12 @@ impl System {
         }
     }
 
-    /// Adds an action, and answers its number. A refused action is dropped.
+    /// Adds an action, and answers its number. A refused action is dropped. The action's parent and
+    /// what its bodies read stand in the system with the action itself.
     pub fn push(&mut self, a: Action) -> Result<u32, PushFault>
-        requires { IsAction (action_trees self.old ++ action_tree a ∷ []) (length self.old) (action_tree a) }
+        requires action { IsAction (system_tree (self.old ++ a ∷ [])) (length self.old)
+            (action_tree a) }
+        requires shallow { IsShallow (action_tree a) }
         ensures ok { IfOk result (λ k. (k ≡ length self.old) × (self.new ≡ self.old ++ a ∷ [])) }
         ensures too_many { IsErrOf result PushFault.TooManyActions ↔ (length self.old ≡ 1024) }
         ensures err { OnErr result (self.new ≡ self.old) }
@@ -90,6 +105,13 @@ impl System {
         self.actions.len() as u32
     }
 
+    /// The actions in the order of their numbers.
+    pub fn actions(&self) -> &[Action]
+        ensures { result.now ≡ self.now }
+    {
+        self.actions.as_slice()
+    }
+
     /// An action by its number.
     pub fn action(&self, k: u32) -> Option<&Action>
         ensures { option_copied result ≡ slice_get self.now k }
@@ -99,7 +121,7 @@ impl System {
 
     /// Whether the two sides of the system differ: some condition or output holds a `Diff`.
     pub fn has_diff(&self) -> bool
-        ensures { result ≡ some_diff (action_trees self.now) }
+        ensures { result ≡ some_diff (system_tree self.now) }
     {
         self.has_diff
     }
@@ -116,7 +138,8 @@ impl System {
     pub fn clash(&self, a: u32, b: u32, k: u32) -> Option<Clash>
         requires first { a < length self.now }
         requires second { b < length self.now }
-        ensures { option_map choice_of result ≡ clash (path_of self.now a) (path_of self.now b) k }
+        ensures { option_map choice_of result
+            ≡ spec.clash (path_of self.now a) (path_of self.now b) k }
     {
         let (_, left) = self.shape(a);
         let (_, right) = self.shape(b);
@@ -129,7 +152,8 @@ impl System {
         requires second { b < length self.now }
         requires first_indices { length is.now ≡ arity_of self.now a }
         requires second_indices { length js.now ≡ arity_of self.now b }
-        ensures conflict { result ≡ spec_in_conflict (path_of self.now a) is.now (path_of self.now b) js.now }
+        ensures conflict { result
+            ≡ spec.in_conflict (path_of self.now a) is.now (path_of self.now b) js.now }
         ensures choices { result ≡ list_any (is_separated is.now js.now)
             (choices_from 0 (path_of self.now a) (path_of self.now b)) }
     {

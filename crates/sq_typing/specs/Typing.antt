@@ -1,5 +1,5 @@
--- Sorts of terms: which terms are well-sorted in a signature, for a statement, over variables.
-use Rattle.std.specs.Prelude.{ℕ, zero, suc, List, [], ◌∷◌, ◌++◌, Option, Some, None, Bool, true, false, ◌&&◌, ◌==◌, nat_lt, cond, length, replicate, slice_get}
+-- Sorts of terms: which terms are well-sorted in a signature, over variables.
+use Rattle.std.specs.Prelude.{ℕ, zero, suc, List, [], ◌∷◌, ◌++◌, Option, Some, None, Bool, true, false, ◌&&◌, ◌==◌, nat_lt, if◌then◌else◌, length, replicate, slice_get}
 use Rattle.sq_base.specs.declared.sort.Sort.{Sort}
 use Rattle.sq_base.specs.declared.sort.Sort.TheVariants.{Message, Boolean, Index, Timestamp}
 use Rattle.sq_term.specs.declared.term.Idx.{Idx}
@@ -7,12 +7,16 @@ use Rattle.sq_term.specs.declared.term.Idx.TheVariants.{Free, Bound}
 use Rattle.sq_term.specs.declared.term.Macro.{Macro}
 use Rattle.sq_term.specs.declared.term.Macro.TheVariants.{Input, Output, Cond, Exec, Frame}
 use Rattle.sq_term.specs.declared.signature.FunDecl.{FunDecl}
-use Rattle.sq_term.specs.Signatures.{takes_boolean}
+use Rattle.sq_term.specs.Macros.{macro_indices}
+use Rattle.sq_term.specs.Measure.{count_terms}
+use Rattle.sq_term.specs.Pure.{is_binder_sort}
+use Rattle.sq_term.specs.Builtins.{takes_boolean}
+use Rattle.sq_term.specs.Symbols.{Kind, function_number}
 use Rattle.sq_term.specs.TreeEquality.{is_same_sort}
 use Rattle.sq_term.specs.Syntax.{TsTree, free, bound, init, pred, action, TermTree, name, fun, macro, schema, diff, le, ts_eq, idx_eq, happens, all, some, find, TermTrees, nil, cons}
 
--- What a term may speak of: names with their counts of indices, functions, actions of one system with their counts of indices,
--- schema variables by their number, and variables with their sorts.
+-- What a term may speak of: names with their counts of indices, functions, actions of one system
+-- with their counts of indices, schema variables by their number, and variables with their sorts.
 pub record Signature : Type 0 where
   pub names : List ℕ
   pub funs : List FunDecl
@@ -49,14 +53,15 @@ module _ (g : Signature) where
   is_timestamp bs (pred t) = is_timestamp bs t
   is_timestamp bs (action a is) = has_count_at g.actions a (length is) && are_indices bs is
 
-  -- the function with these counts of indices and arguments
-  abbrev pub applies : Option FunDecl → ℕ → ℕ → Bool
-  applies None i n = false
-  applies (Some d) i n = (d.idx == i) && (d.args == n)
+-- the function with these counts of indices and arguments
+abbrev pub applies : Option FunDecl → ℕ → ℕ → Bool
+applies None i n = false
+applies (Some d) i n = (d.idx == i) && (d.args == n)
 
-  abbrev pub result_sort : Option FunDecl → Sort
-  result_sort None = Index
-  result_sort (Some d) = d.result
+-- the sort of its applications
+abbrev pub result_sort : Option FunDecl → Sort
+result_sort None = Index
+result_sort (Some d) = d.result
 
 abbrev pub macro_sort : Macro → Sort
 macro_sort Input = Message
@@ -65,44 +70,43 @@ macro_sort Cond = Boolean
 macro_sort Exec = Boolean
 macro_sort Frame = Message
 
--- a quantifier binds an index or a timestamp
-abbrev pub is_binder_sort : Sort → Bool
-is_binder_sort Message = false
-is_binder_sort Boolean = false
-is_binder_sort Index = true
-is_binder_sort Timestamp = true
-
-abbrev pub count_terms : TermTrees → ℕ
-count_terms nil = 0
-count_terms (cons t ts) = suc (count_terms ts)
-
-abbrev pub argument_sort : ℕ → ℕ → Sort
-argument_sort f k = cond (takes_boolean f k) Boolean Message
+-- the sort of argument k of a function, counted from 0
+abbrev pub argument_sort : Kind → ℕ → Sort
+argument_sort f k = if takes_boolean f k then Boolean else Message
 
 -- the term has the sort
 abbrev mutual
   pub has_sort : Signature → List Sort → Sort → TermTree → Bool
-  has_sort g bs s (name n is) = is_same_sort Message s && (has_count_at g.names n (length is) && are_indices g bs is)
+  has_sort g bs s (name n is) =
+      is_same_sort Message s && (has_count_at g.names n (length is) && are_indices g bs is)
   has_sort g bs s (fun f is ts) =
-      is_same_sort (result_sort g (slice_get g.funs f)) s
-      && (applies g (slice_get g.funs f) (length is) (count_terms ts) && (are_indices g bs is && have_sorts g bs f 0 ts))
-  has_sort g bs s (macro m t) = is_same_sort (macro_sort m) s && is_timestamp g bs t
+      is_same_sort (result_sort (slice_get g.funs (function_number f))) s
+      && (applies (slice_get g.funs (function_number f)) (length is) (count_terms ts)
+      && (are_indices g bs is && have_sorts g bs f 0 ts))
+  has_sort g bs s (macro m t) =
+      is_same_sort (macro_sort m) s && (are_indices g bs (macro_indices m) && is_timestamp g bs t)
   has_sort g bs s (schema k) = is_same_sort Message s && nat_lt k g.schemas
   has_sort g bs s (diff a b) = has_sort g bs s a && has_sort g bs s b
-  has_sort g bs s (le t u) = is_same_sort Boolean s && (is_timestamp g bs t && is_timestamp g bs u)
-  has_sort g bs s (ts_eq t u) = is_same_sort Boolean s && (is_timestamp g bs t && is_timestamp g bs u)
+  has_sort g bs s (le t u) =
+      is_same_sort Boolean s && (is_timestamp g bs t && is_timestamp g bs u)
+  has_sort g bs s (ts_eq t u) =
+      is_same_sort Boolean s && (is_timestamp g bs t && is_timestamp g bs u)
   has_sort g bs s (idx_eq i j) = is_same_sort Boolean s && (is_index g bs i && is_index g bs j)
   has_sort g bs s (happens t) = is_same_sort Boolean s && is_timestamp g bs t
-  has_sort g bs s (all b t) = is_same_sort Boolean s && (is_binder_sort b && has_sort g (b ∷ bs) Boolean t)
-  has_sort g bs s (some b t) = is_same_sort Boolean s && (is_binder_sort b && has_sort g (b ∷ bs) Boolean t)
+  has_sort g bs s (all b t) =
+      is_same_sort Boolean s && (is_binder_sort b && has_sort g (b ∷ bs) Boolean t)
+  has_sort g bs s (some b t) =
+      is_same_sort Boolean s && (is_binder_sort b && has_sort g (b ∷ bs) Boolean t)
   has_sort g bs s (find c t a b) =
       is_same_sort Message s
-      && (has_sort g (replicate c Index ++ bs) Boolean t && (has_sort g (replicate c Index ++ bs) Message a && has_sort g bs Message b))
+      && (has_sort g (replicate c Index ++ bs) Boolean t
+      && (has_sort g (replicate c Index ++ bs) Message a && has_sort g bs Message b))
 
   -- the arguments of function f from number k on
-  pub have_sorts : Signature → List Sort → ℕ → ℕ → TermTrees → Bool
+  pub have_sorts : Signature → List Sort → Kind → ℕ → TermTrees → Bool
   have_sorts g bs f k nil = true
-  have_sorts g bs f k (cons t ts) = has_sort g bs (argument_sort f k) t && have_sorts g bs f (suc k) ts
+  have_sorts g bs f k (cons t ts) =
+      has_sort g bs (argument_sort f k) t && have_sorts g bs f (suc k) ts
 
 -- quantifiers bind indices alone
 abbrev mutual

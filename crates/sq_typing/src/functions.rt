@@ -1,6 +1,6 @@
 // The functions that every signature has.
 ghost use Rattle.std.specs.Prelude.{◌≡◌, IfOk};
-ghost use Rattle.sq_system.specs.Functions as spec;
+ghost use Rattle.sq_typing.specs.Functions as spec;
 
 use sq_base::{NoMemory, Seq, Sort};
 use sq_term::{FunDecl, FunRole};

@@ -1,23 +1,24 @@
 -- The functions of a signature: the built-in ones, and the declared ones.
-use Rattle.std.specs.Prelude.{ℕ, List, [], ◌∷◌, Bool, true, false, cond, ◌&&◌, ◌||◌, ◌==◌}
+use Rattle.std.specs.Prelude.{ℕ, List, [], ◌∷◌, map, Bool, true, false, if◌then◌else◌, ◌&&◌, ◌||◌, ◌==◌}
 use Rattle.sq_base.specs.declared.sort.Sort.{Sort}
 use Rattle.sq_base.specs.declared.sort.Sort.TheVariants.{Message, Boolean}
 use Rattle.sq_term.specs.declared.signature.FunDecl.{FunDecl}
 use Rattle.sq_term.specs.declared.signature.FunRole.{FunRole}
 use Rattle.sq_term.specs.declared.signature.FunRole.TheVariants.{Plain, Hash, Sign, Check, Pk}
+use Rattle.sq_term.specs.Builtins.{arguments, gives_boolean}
+use Rattle.sq_term.specs.Symbols.{Kind, builtin_kinds}
 use Rattle.sq_term.specs.TreeEquality.{is_same_sort}
 
 -- a function without indices
 abbrev pub plain_function : ℕ → Sort → FunDecl
 plain_function n s = record { idx = 0; args = n; result = s; role = Plain }
 
--- empty, true, false, not, and, or, implies, eq, ite, pair, fst, snd, of_bool, att
+abbrev pub builtin_function : Kind → FunDecl
+builtin_function k = plain_function (arguments k) (if gives_boolean k then Boolean else Message)
+
+-- the built-in functions in the order of their numbers
 abbrev pub builtin_functions : List FunDecl
-builtin_functions =
-    plain_function 0 Message ∷ plain_function 0 Boolean ∷ plain_function 0 Boolean ∷ plain_function 1 Boolean
-    ∷ plain_function 2 Boolean ∷ plain_function 2 Boolean ∷ plain_function 2 Boolean ∷ plain_function 2 Boolean
-    ∷ plain_function 3 Message ∷ plain_function 2 Message ∷ plain_function 1 Message ∷ plain_function 1 Message
-    ∷ plain_function 1 Message ∷ plain_function 1 Message ∷ []
+builtin_functions = map builtin_function builtin_kinds
 
 abbrev pub is_value_sort : Sort → Bool
 is_value_sort s = is_same_sort s Message || is_same_sort s Boolean
@@ -50,9 +51,9 @@ are_declared any_function [] = true
 are_declared check_of_signature [] = false
 are_declared key_of_signature [] = false
 are_declared any_function (d ∷ ds) =
-    cond (same_role d.role Sign)
-    (is_function d 2 Message Sign && are_declared check_of_signature ds)
-    (stands_alone d && are_declared any_function ds)
+    if same_role d.role Sign
+    then is_function d 2 Message Sign && are_declared check_of_signature ds
+    else stands_alone d && are_declared any_function ds
 are_declared check_of_signature (d ∷ ds) = is_function d 3 Boolean Check && are_declared key_of_signature ds
 are_declared key_of_signature (d ∷ ds) = is_function d 1 Message Pk && are_declared any_function ds
 

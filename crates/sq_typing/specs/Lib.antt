@@ -1,0 +1,5 @@
+pub mod Typing
+pub mod Functions
+pub mod Diffs
+pub mod Standing
+pub mod Views
