@@ -3,7 +3,6 @@ pub mod Grounds
 pub mod Kept
 pub mod AlikeTerms
 pub mod Tables
-mod ReaderAction
 pub mod Quantified
 pub mod Joins
 pub mod InstanceLists
@@ -14,7 +13,9 @@ pub mod Bodies
 pub mod Traces
 pub mod TraceFormulas
 pub mod Usable
+pub mod GroundSorting
+pub mod TranslationSorts
+pub mod RecordSorts
 mod RuleCases
-pub mod Sorts
 pub mod Congruence
 pub mod ReplacedMeaning

@@ -1,19 +1,18 @@
+-- when a goal holds at every model
 pub mod Truth
 pub mod Lines
 pub mod Replaced
+pub mod Searches
+pub mod Conclusions
 pub mod Rules
+pub mod GroundSorts
+pub mod Theories
 pub mod Derivations
 pub mod Holding
-pub mod Usable
-pub mod Theories
+pub mod Goals
+-- laws
 pub mod Laws
-pub mod Answers
-pub mod GroundMeasure
-pub mod Translations
-pub mod Builds
-pub mod Readings
-pub mod Instances
-pub mod Rows
-pub mod Alike
+pub mod DerivationLaws
 pub mod Replacing
-pub mod Reader
+-- calls
+pub mod Calls

@@ -1,9 +1,8 @@
 -- Lines of ground derivations.
-use Rattle.std.specs.Prelude.{List, [], Bool, cond}
+use Rattle.std.specs.Prelude.{List, [], Bool, if◌then◌else◌}
 use Rattle.sq_term.specs.Lists.{Each}
-use Rattle.sq_term.specs.Symbols.{conjunction, implication, equality}
 use Rattle.sq_term.specs.Ground.{Ground}
-use Rattle.sq_term.specs.GroundFormulas.{binary}
+use Rattle.sq_term.specs.GroundFormulas.{equal, equivalent}
 use Rattle.sq_ground.specs.Truth.{IsTrueAt}
 
 -- hypotheses and a conclusion
@@ -32,23 +31,14 @@ HoldsUnder v c = Each (IsTrueAt v) c.hyps → IsTrueAt v c.goal
 abbrev pub Entails : List Claim → Claim → Type 0
 Entails cited c = (v : Ground → Bool) → Each (HoldsUnder v) cited → HoldsUnder v c
 
-abbrev pub equation : Ground → Ground → Ground
-equation u v = binary equality u v
-
-abbrev pub implies : Ground → Ground → Ground
-implies a b = binary implication a b
-
--- u => v and v => u
-abbrev pub iff : Ground → Ground → Ground
-iff u v = binary conjunction (implies u v) (implies v u)
-
 -- equal, as Booleans or as messages
 abbrev pub alike : Bool → Ground → Ground → Ground
-alike boolean u v = cond boolean (iff u v) (equation u v)
+alike boolean u v = if boolean then equivalent u v else equal u v
 
 -- the pair's term on a side, and the pair with another term there
 abbrev pub component : Bool → Pair → Ground
-component left p = cond left p.left p.right
+component left p = if left then p.left else p.right
 
 abbrev pub with_component : Bool → (Ground → Ground) → Pair → Pair
-with_component left f p = record { left = cond left (f p.left) p.left; right = cond left p.right (f p.right) }
+with_component left f p =
+    record { left = if left then f p.left else p.left; right = if left then p.right else f p.right }

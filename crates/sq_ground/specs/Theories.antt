@@ -1,24 +1,18 @@
--- The theory of a model, and when a goal of a file holds at every model of its system.
-use Rattle.std.specs.Prelude.{ℕ, List}
+-- What ground derivations stand on.
+use Rattle.std.specs.Prelude.{ℕ, List, Option, Bool}
+use Rattle.sq_term.specs.Macros.{GroundMacro}
 use Rattle.sq_term.specs.declared.signature.FunDecl.{FunDecl}
-use Rattle.sq_term.specs.declared.model.Model.{Model}
 use Rattle.sq_term.specs.Syntax.{TermTree}
-use Rattle.sq_term.specs.Systems.{ActionTree}
-use Rattle.sq_term.specs.Models.{times_of, IsTraceModel}
-use Rattle.sq_term.specs.Records.{world}
-use Rattle.sq_system.specs.Environments.{EnvTree}
-use Rattle.sq_ground.specs.Rules.{Theory}
-use Rattle.sq_ground.specs.Holding.{HoldsAt}
-use Rattle.sq_ground.specs.Usable.{usable_axioms, system_of, statement_at}
+use Rattle.sq_term.specs.Ground.{Ground}
+use Rattle.sq_term.specs.Translate.{Times, World}
 
--- the ground rules stand at a model of a system, before a goal that may use these axioms
-abbrev pub theory_at : List ActionTree → Model → List FunDecl → List TermTree → Theory
-theory_at actions m funs axioms = record { times = times_of m; values = λ left. (world actions m left).values; axioms = axioms; funs = funs }
+-- The trace, the values of the macros on its two sides (true for the left one), the formulas of the
+-- axioms that the goal may use, and the functions.
+pub record Theory : Type 0 where
+  pub times : Times
+  pub values : Bool → GroundMacro → Option ℕ → Ground
+  pub axioms : List TermTree
+  pub funs : List FunDecl
 
--- at a model of the goal's system, before goal g
-abbrev pub theory_of : EnvTree → ℕ → Model → Theory
-theory_of env g m = theory_at (system_of env g) m env.funs (usable_axioms env g)
-
--- goal g holds at every model of its system
-abbrev pub HoldsEverywhere : EnvTree → ℕ → Type 0
-HoldsEverywhere env g = (m : Model) → IsTraceModel (system_of env g) m → HoldsAt (theory_of env g m) (statement_at env g).start
+abbrev pub world_at : Theory → Bool → World
+world_at th left = record { times = th.times; values = th.values left; left = left }

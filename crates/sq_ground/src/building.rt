@@ -1,9 +1,10 @@
 // Ground terms are made of their parts, within a room of nodes and depth 1,024.
-ghost use Rattle.std.specs.Prelude.{◌≡◌, ◌+◌, ◌<◌, ◌≤◌, ◌^◌, []};
-ghost use Rattle.sq_term.specs.Ground.{ground, grounds, named, applied, atom, none, more};
-ghost use Rattle.sq_term.specs.Symbols.{empty};
-ghost use Rattle.sq_term.specs.GroundFormulas.{constant as constant_of, truth_of};
-ghost use Rattle.sq_ground.specs.Builds.{Builds, BuildsAll};
+ghost use Rattle.std.specs.Prelude.{◌≡◌, ◌+◌, ◌<◌, ◌≤◌, ◌^◌};
+ghost use Rattle.sq_term.specs.Builtins.{builtin_kind};
+ghost use Rattle.sq_term.specs.Symbols.{kind_of};
+ghost use Rattle.sq_term.specs.Ground.{ground, grounds, named, applied, atom};
+ghost use Rattle.sq_term.specs.GroundFormulas as the;
+ghost use Rattle.sq_ground.specs.Calls.Builds.{Builds, BuildsAll};
 
 use crate::built::{Arguments, Built};
 use sq_base::Seq;
@@ -47,7 +48,7 @@ pub fn an_atom(k: u32, room: usize) -> Result<Built, SizeFault>
 /// A function on its arguments.
 #[tactic(auto, using(sq_term::proofs::GroundViews::ground_rules))]
 pub fn apply(f: u32, numbers: Seq<u32>, args: Arguments, room: usize) -> Result<Built, SizeFault>
-    ensures { Builds room (applied f numbers (grounds args.terms)) result }
+    ensures { Builds room (applied (kind_of f) numbers (grounds args.terms)) result }
 {
     let Arguments { terms, size, depth } = args;
     if size >= room || depth >= MOST_DEPTH {
@@ -61,15 +62,15 @@ pub fn apply(f: u32, numbers: Seq<u32>, args: Arguments, room: usize) -> Result<
 }
 
 /// A constant.
-#[tactic(auto, using(sq_term::proofs::GroundViews::ground_rules))]
-pub fn constant(alloc: Global, f: u32, room: usize) -> Result<Built, SizeFault>
-    ensures { Builds room (applied f [] none) result }
+#[tactic(auto, using(crate::proofs::Grounds::built_rules))]
+pub fn constant(alloc: Global, f: Builtin, room: usize) -> Result<Built, SizeFault>
+    ensures { Builds room (the.constant (builtin_kind f)) result }
 {
     if room == 0 {
         return Err(SizeFault::TooLarge);
     }
     Ok(Built {
-        term: GTerm::Fun(f, Seq::new(alloc), Items::new(alloc)),
+        term: GTerm::Fun(f.number(), Seq::new(alloc), Items::new(alloc)),
         size: 1,
         depth: 1,
     })
@@ -77,26 +78,26 @@ pub fn constant(alloc: Global, f: u32, room: usize) -> Result<Built, SizeFault>
 
 /// The message that is empty.
 pub fn empty_message(alloc: Global, room: usize) -> Result<Built, SizeFault>
-    ensures { Builds room (constant_of empty) result }
+    ensures { Builds room the.empty result }
 {
-    constant(alloc, Builtin::Empty.number(), room)
+    constant(alloc, Builtin::Empty, room)
 }
 
 /// A truth value.
 pub fn truth(alloc: Global, b: bool, room: usize) -> Result<Built, SizeFault>
-    ensures { Builds room (truth_of b) result }
+    ensures { Builds room (the.truth_of b) result }
 {
     if b {
-        constant(alloc, Builtin::True.number(), room)
+        constant(alloc, Builtin::True, room)
     } else {
-        constant(alloc, Builtin::False.number(), room)
+        constant(alloc, Builtin::False, room)
     }
 }
 
 /// A function on one argument.
-#[tactic(auto, using(sq_term::proofs::GroundViews::ground_rules))]
-pub fn unary(alloc: Global, f: u32, x: Built, room: usize) -> Result<Built, SizeFault>
-    ensures { Builds room (applied f [] (more (ground x.term) none)) result }
+#[tactic(auto, using(crate::proofs::Grounds::built_rules))]
+pub fn unary(alloc: Global, f: Builtin, x: Built, room: usize) -> Result<Built, SizeFault>
+    ensures { Builds room (the.unary (builtin_kind f) (ground x.term)) result }
 {
     let Built { term, size, depth } = x;
     if size >= room || depth >= MOST_DEPTH {
@@ -105,16 +106,22 @@ pub fn unary(alloc: Global, f: u32, x: Built, room: usize) -> Result<Built, Size
     let mut terms = Items::new(alloc);
     terms.push(term)?;
     Ok(Built {
-        term: GTerm::Fun(f, Seq::new(alloc), terms),
+        term: GTerm::Fun(f.number(), Seq::new(alloc), terms),
         size: size + 1,
         depth: depth + 1,
     })
 }
 
 /// A function on two arguments.
-#[tactic(auto, using(sq_term::proofs::GroundViews::ground_rules))]
-pub fn binary(alloc: Global, f: u32, x: Built, y: Built, room: usize) -> Result<Built, SizeFault>
-    ensures { Builds room (applied f [] (more (ground x.term) (more (ground y.term) none))) result }
+#[tactic(auto, using(crate::proofs::Grounds::built_rules))]
+pub fn binary(
+    alloc: Global,
+    f: Builtin,
+    x: Built,
+    y: Built,
+    room: usize,
+) -> Result<Built, SizeFault>
+    ensures { Builds room (the.binary (builtin_kind f) (ground x.term) (ground y.term)) result }
 {
     let Built {
         term: first,
@@ -133,23 +140,22 @@ pub fn binary(alloc: Global, f: u32, x: Built, y: Built, room: usize) -> Result<
     terms.push(first)?;
     terms.push(second)?;
     Ok(Built {
-        term: GTerm::Fun(f, Seq::new(alloc), terms),
+        term: GTerm::Fun(f.number(), Seq::new(alloc), terms),
         size: size + more + 1,
         depth: depth.max(deep) + 1,
     })
 }
 
-/// A function on three arguments.
-#[tactic(auto, using(sq_term::proofs::GroundViews::ground_rules))]
-pub fn ternary(
+/// One of two terms by a test.
+#[tactic(auto, using(crate::proofs::Grounds::built_rules))]
+pub fn conditional(
     alloc: Global,
-    f: u32,
     x: Built,
     y: Built,
     z: Built,
     room: usize,
 ) -> Result<Built, SizeFault>
-    ensures { Builds room (applied f [] (more (ground x.term) (more (ground y.term) (more (ground z.term) none)))) result }
+    ensures { Builds room (the.conditional (ground x.term) (ground y.term) (ground z.term)) result }
 {
     let Built {
         term: first,
@@ -178,7 +184,7 @@ pub fn ternary(
     terms.push(second)?;
     terms.push(third)?;
     Ok(Built {
-        term: GTerm::Fun(f, Seq::new(alloc), terms),
+        term: GTerm::Fun(Builtin::Ite.number(), Seq::new(alloc), terms),
         size: one + two + three + 1,
         depth: depth + 1,
     })

@@ -1,7 +1,8 @@
 // Ground terms while they are built.
 ghost use Rattle.std.specs.Prelude.{◌≡◌};
 ghost use Rattle.sq_term.specs.Ground.{ground, grounds};
-ghost use Rattle.sq_ground.specs.GroundMeasure.{ground_size, ground_sizes, ground_depth, ground_depths};
+ghost use Rattle.sq_ground.specs.Calls.GroundMeasure.{ground_size, ground_sizes};
+ghost use Rattle.sq_ground.specs.Calls.GroundMeasure.{ground_depth, ground_depths};
 
 use sq_term::GTerm;
 use sqlite_items::Items;

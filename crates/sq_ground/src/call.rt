@@ -1,11 +1,11 @@
 // The ground term of a term at a trace model.
 ghost use Rattle.std.specs.Prelude.{◌≡◌, ◌≢◌, ℕ, ◌-◌, ◌<◌, ◌^◌, length};
 ghost use Rattle.sq_term.specs.View.{term_tree};
-ghost use Rattle.sq_term.specs.Systems.{action_trees};
+ghost use Rattle.sq_term.specs.Systems.{system_tree};
 ghost use Rattle.sq_term.specs.Ground.{Ground};
-ghost use Rattle.sq_ground.specs.Alike.{Alike};
-ghost use Rattle.sq_ground.specs.Builds.{Builds};
-ghost use Rattle.sq_ground.specs.Translations.{is_left, ground_translation, IsAnswer};
+ghost use Rattle.sq_ground.specs.Calls.Alike.{Alike};
+ghost use Rattle.sq_ground.specs.Calls.Builds.{Builds};
+ghost use Rattle.sq_ground.specs.Calls.Translations.{is_left, ground_translation, IsAnswer};
 
 use crate::building::empty_message;
 use crate::built::Built;
@@ -27,7 +27,8 @@ fn reads_left(side: Side) -> bool
 }
 
 fn answer(built: Result<Built, SizeFault>) -> Result<GTerm, SizeFault>
-    ensures { (room : ℕ) (g whole : Ground) → Alike room g whole → Builds room g built → IsAnswer room whole result }
+    ensures { (room : ℕ) (g whole : Ground) → Alike room g whole → Builds room g built
+        → IsAnswer room whole result }
 {
     match built {
         Ok(b) => {
@@ -38,16 +39,17 @@ fn answer(built: Result<Built, SizeFault>) -> Result<GTerm, SizeFault>
     }
 }
 
-/// The ground term of a term at a model of the system, on one side, for these values of the variables.
+/// The ground term of a term at a model of the system, on one side, for these values of the
+/// variables.
 ///
 /// Names and functions carry numbers, atoms of the trace are true or false, a quantifier is the
-/// conjunction or disjunction of all its instances, `find` is nested conditionals in ascending order of
-/// its indices, `diff` is its side, and a macro has its value along the trace. A schema variable
-/// stands as its atom.
+/// conjunction or disjunction of all its instances, `find` is nested conditionals in ascending
+/// order of its indices, `diff` is its side, and a macro has its value along the trace. A schema
+/// variable stands as its atom.
 ///
-/// TooLarge comes where the ground term has more than `room` nodes or depth above 1,024. Each ground
-/// term is one node; the numbers of names and functions are none. Macros that the term does not read
-/// may pass these limits.
+/// TooLarge comes where the ground term has more than `room` nodes or depth above 1,024. Each
+/// ground term is one node; the numbers of names and functions are none. Macros that the term does
+/// not read may pass these limits.
 pub fn translate(
     alloc: Global,
     t: &Term,
@@ -59,7 +61,8 @@ pub fn translate(
 ) -> Result<GTerm, SizeFault>
     requires few { length m.now.list < 2 ^ 32 - 1 }
     requires one_side { side ≢ Side.Both }
-    ensures { IsAnswer room (ground_translation (action_trees s.now) m.now side a.now.vars (term_tree t.now)) result }
+    ensures { IsAnswer room
+        (ground_translation (system_tree s.now) m.now side a.now.vars (term_tree t.now)) result }
 {
     let left = reads_left(side);
     let entries = entries_of(alloc, s, m, left, room)?;

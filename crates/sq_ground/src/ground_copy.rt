@@ -1,7 +1,7 @@
 // Copies of ground terms, within a room of nodes.
 ghost use Rattle.std.specs.Prelude.{◌≡◌};
 ghost use Rattle.sq_term.specs.Ground.{ground, grounds};
-ghost use Rattle.sq_ground.specs.Builds.{Builds, BuildsAll};
+ghost use Rattle.sq_ground.specs.Calls.Builds.{Builds, BuildsAll};
 
 use crate::building::{an_atom, apply, name};
 use crate::built::{Arguments, Built};

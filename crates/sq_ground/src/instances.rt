@@ -1,9 +1,10 @@
 // The values of the binders around a body, the innermost first, for each value of its own binders.
-ghost use Rattle.std.specs.Prelude.{◌≡◌, ◌-◌, ◌<◌, ◌^◌, [], ◌∷◌, ◌++◌, None, length, map, flat_map, IfOk};
+ghost use Rattle.std.specs.Prelude.{◌≡◌, ◌-◌, ◌<◌, ◌^◌, [], ◌∷◌, ◌++◌, None, length, map, flat_map};
+ghost use Rattle.std.specs.Prelude.{replicate, IfOk};
 ghost use Rattle.sq_term.specs.Lists.{count};
 ghost use Rattle.sq_term.specs.Translate.{domain, choices as all_choices};
 ghost use Rattle.sq_term.specs.Models.{times_of};
-ghost use Rattle.sq_ground.specs.Instances.{Lists, with_index, with_position};
+ghost use Rattle.sq_ground.specs.Calls.Instances.{Lists, with_index, with_position};
 
 use sq_base::{NoMemory, Seq, Sort};
 use sq_term::{Model, SizeFault, Value};
@@ -39,7 +40,9 @@ fn over_indices(alloc: Global, d: u32, bs: &[Value]) -> Result<Items<Seq<Value>>
 
 // One more binder over the positions of so many, and then undefined.
 fn over_times(alloc: Global, positions: usize, bs: &[Value]) -> Result<Items<Seq<Value>>, SizeFault>
-    ensures { Lists (map (with_position bs.now) (count 0 positions) ++ (Value.Time None ∷ bs.now) ∷ []) result }
+    ensures { Lists
+        (map (with_position bs.now) (count 0 positions) ++ (Value.Time None ∷ bs.now) ∷ [])
+        result }
 {
     if positions >= MOST_INSTANCES {
         return Err(SizeFault::TooLarge);
@@ -83,8 +86,21 @@ fn one_more(alloc: Global, d: u32, lists: &[Seq<Value>]) -> Result<Items<Seq<Val
     Ok(longer)
 }
 
-/// One list for each choice of c indices, in ascending lexicographic order.
-pub fn choices(
+// The list for the only choice of c indices below 1.
+fn only_choice(alloc: Global, c: u32, bs: &[Value]) -> Result<Seq<Value>, NoMemory>
+    ensures { IfOk result (λ ys. ys ≡ replicate c (Value.Index 0) ++ bs.now) }
+{
+    let mut values = Seq::new(alloc);
+    for k in 0..c {
+        values.push(Value::Index(0))?;
+    }
+    values.extend_from_slice(bs)?;
+    Ok(values)
+}
+
+// One list for each choice of c indices of several. All shorter choices together are no more than
+// these.
+fn choices_of_several(
     alloc: Global,
     m: &Model,
     c: u32,
@@ -97,5 +113,26 @@ pub fn choices(
     for done in 0..c {
         lists = one_more(alloc, m.indices, lists.as_slice())?;
     }
+    Ok(lists)
+}
+
+/// One list for each choice of c indices, in ascending lexicographic order. It takes time in what
+/// it answers alone.
+pub fn choices(
+    alloc: Global,
+    m: &Model,
+    c: u32,
+    bs: &[Value],
+) -> Result<Items<Seq<Value>>, SizeFault>
+    ensures { Lists (all_choices (times_of m.now) c bs.now) result }
+{
+    if c == 0 || m.indices > 1 {
+        return choices_of_several(alloc, m, c, bs);
+    }
+    let mut lists = Items::new(alloc);
+    if m.indices == 0 {
+        return Ok(lists);
+    }
+    lists.push(only_choice(alloc, c, bs)?)?;
     Ok(lists)
 }

@@ -3,7 +3,7 @@ ghost use Rattle.std.specs.Prelude.{◌≡◌, ◌-◌, ◌<◌, ◌^◌, None, 
 ghost use Rattle.sq_term.specs.View.{ts_tree};
 ghost use Rattle.sq_term.specs.Models.{place_from};
 ghost use Rattle.sq_term.specs.Translate as spec;
-ghost use Rattle.sq_ground.specs.Readings.{seen, given};
+ghost use Rattle.sq_ground.specs.Calls.Readings.{seen, given};
 
 use crate::model::is_instance;
 use crate::reading::Reading;
@@ -81,7 +81,8 @@ fn before(t: Option<u32>) -> Option<u32>
 #[tactic(auto, using(sq_term::proofs::Views::tree_rules))]
 pub fn ts_value(alloc: Global, w: &Reading, bs: &[Value], t: &Ts) -> Result<Option<u32>, NoMemory>
     requires { length w.now.model.now.list < 2 ^ 32 - 1 }
-    ensures { IfOk result (λ v. v ≡ spec.ts_value (seen w.now).times (given w.now) bs.now (ts_tree t.now)) }
+    ensures { IfOk result
+        (λ v. v ≡ spec.ts_value (seen w.now).times (given w.now) bs.now (ts_tree t.now)) }
 {
     match t {
         Ts::Free(k) => Ok(time_at(w.values, *k)),

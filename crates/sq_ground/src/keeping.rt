@@ -1,14 +1,13 @@
 // What is kept of a position's macros.
 ghost use Rattle.std.specs.Prelude.{◌≡◌, ℕ, IfOk};
-ghost use Rattle.sq_term.specs.Symbols.{empty, conjunction, conditional, pairing, of_bool, attacker};
 ghost use Rattle.sq_term.specs.Ground.{Ground};
-ghost use Rattle.sq_term.specs.GroundFormulas.{constant as constant_of, unary as unary_of, binary as binary_of, ternary as ternary_of};
+ghost use Rattle.sq_term.specs.GroundFormulas as the;
 ghost use Rattle.sq_term.specs.Records.{at_init, at_undefined, next_record};
-ghost use Rattle.sq_ground.specs.Builds.{Builds};
-ghost use Rattle.sq_ground.specs.Readings.{kept, kept_record};
-ghost use Rattle.sq_ground.specs.Alike.{Alike, AlikeRecord};
+ghost use Rattle.sq_ground.specs.Calls.Builds.{Builds};
+ghost use Rattle.sq_ground.specs.Calls.Readings.{kept, kept_record};
+ghost use Rattle.sq_ground.specs.Calls.Alike.{Alike, AlikeRecord};
 
-use crate::building::{binary, empty_message, ternary, truth, unary};
+use crate::building::{binary, conditional, empty_message, truth, unary};
 use crate::built::Built;
 use crate::macros::copy_kept;
 use crate::reading::Entry;
@@ -18,7 +17,8 @@ use std::alloc::Global;
 
 /// What is kept of a term that was built, or was too large.
 pub fn keep(built: Result<Built, SizeFault>) -> Result<Option<GTerm>, NoMemory>
-    ensures { (room : ℕ) (g : Ground) → Builds room g built → IfOk result (λ k. Alike room (kept k) g) }
+    ensures { (room : ℕ) (g : Ground) → Builds room g built
+        → IfOk result (λ k. Alike room (kept k) g) }
 {
     match built {
         Ok(b) => {
@@ -38,10 +38,10 @@ pub fn keep(built: Result<Built, SizeFault>) -> Result<Option<GTerm>, NoMemory>
 
 // What the attacker sends behind this frame.
 fn input(alloc: Global, frame: &Option<GTerm>, room: usize) -> Result<Built, SizeFault>
-    ensures { Builds room (unary_of attacker (kept frame.now)) result }
+    ensures { Builds room (the.attacked (kept frame.now)) result }
 {
     let seen = copy_kept(alloc, frame, room)?;
-    unary(alloc, Builtin::Att.number(), seen, room)
+    unary(alloc, Builtin::Att, seen, room)
 }
 
 fn exec(
@@ -50,11 +50,11 @@ fn exec(
     cond: &Option<GTerm>,
     room: usize,
 ) -> Result<Built, SizeFault>
-    ensures { Builds room (binary_of conjunction (kept before.now) (kept cond.now)) result }
+    ensures { Builds room (the.both (kept before.now) (kept cond.now)) result }
 {
     let before = copy_kept(alloc, before, room)?;
     let own = copy_kept(alloc, cond, room - before.size)?;
-    binary(alloc, Builtin::And.number(), before, own, room)
+    binary(alloc, Builtin::And, before, own, room)
 }
 
 // The output where it is executed, and else empty.
@@ -64,13 +64,13 @@ fn shown(
     output: &Option<GTerm>,
     room: usize,
 ) -> Result<Built, SizeFault>
-    ensures { Builds room (ternary_of conditional (kept exec.now) (kept output.now) (constant_of empty)) result }
+    ensures { Builds room (the.conditional (kept exec.now) (kept output.now) the.empty) result }
 {
     let test = copy_kept(alloc, exec, room)?;
     let left = room - test.size;
     let found = copy_kept(alloc, output, left)?;
     let other = empty_message(alloc, left - found.size)?;
-    ternary(alloc, Builtin::Ite.number(), test, found, other, room)
+    conditional(alloc, test, found, other, room)
 }
 
 // What a position adds to the frame.
@@ -80,12 +80,13 @@ fn added(
     output: &Option<GTerm>,
     room: usize,
 ) -> Result<Built, SizeFault>
-    ensures { Builds room (binary_of pairing (unary_of of_bool (kept exec.now)) (ternary_of conditional (kept exec.now) (kept output.now) (constant_of empty))) result }
+    ensures { Builds room (the.pair (the.of_bool (kept exec.now))
+        (the.conditional (kept exec.now) (kept output.now) the.empty)) result }
 {
     let test = copy_kept(alloc, exec, room)?;
-    let executed = unary(alloc, Builtin::OfBool.number(), test, room)?;
+    let executed = unary(alloc, Builtin::OfBool, test, room)?;
     let output = shown(alloc, exec, output, room - executed.size)?;
-    binary(alloc, Builtin::Pair.number(), executed, output, room)
+    binary(alloc, Builtin::Pair, executed, output, room)
 }
 
 fn frame(
@@ -95,11 +96,12 @@ fn frame(
     output: &Option<GTerm>,
     room: usize,
 ) -> Result<Built, SizeFault>
-    ensures { Builds room (binary_of pairing (kept before.now) (binary_of pairing (unary_of of_bool (kept exec.now)) (ternary_of conditional (kept exec.now) (kept output.now) (constant_of empty)))) result }
+    ensures { Builds room (the.pair (kept before.now) (the.pair (the.of_bool (kept exec.now))
+        (the.conditional (kept exec.now) (kept output.now) the.empty))) result }
 {
     let before = copy_kept(alloc, before, room)?;
     let more = added(alloc, exec, output, room - before.size)?;
-    binary(alloc, Builtin::Pair.number(), before, more, room)
+    binary(alloc, Builtin::Pair, before, more, room)
 }
 
 /// What is kept at init.
@@ -117,7 +119,8 @@ pub fn init_entry(alloc: Global, room: usize) -> Result<Entry, NoMemory>
 
 /// What is kept where nothing happens, with this input.
 pub fn undefined_entry(alloc: Global, input: Option<GTerm>, room: usize) -> Result<Entry, NoMemory>
-    ensures { IfOk result (λ e. AlikeRecord room (kept_record e) (record at_undefined { input = kept input })) }
+    ensures { IfOk result
+        (λ e. AlikeRecord room (kept_record e) (record at_undefined { input = kept input })) }
 {
     Ok(Entry {
         input,
@@ -130,7 +133,7 @@ pub fn undefined_entry(alloc: Global, input: Option<GTerm>, room: usize) -> Resu
 
 /// What is kept of the input behind a position.
 pub fn next_input(alloc: Global, last: &Entry, room: usize) -> Result<Option<GTerm>, NoMemory>
-    ensures { IfOk result (λ k. Alike room (kept k) (unary_of attacker (kept_record last.now).frame)) }
+    ensures { IfOk result (λ k. Alike room (kept k) (the.attacked (kept_record last.now).frame)) }
 {
     keep(input(alloc, &last.frame, room))
 }
@@ -144,7 +147,8 @@ pub fn next_entry(
     cond: Option<GTerm>,
     room: usize,
 ) -> Result<Entry, NoMemory>
-    ensures { IfOk result (λ e. AlikeRecord room (kept_record e) (next_record (kept_record last.now) (kept input) (kept output) (kept cond))) }
+    ensures { IfOk result (λ e. AlikeRecord room (kept_record e)
+        (next_record (kept_record last.now) (kept input) (kept output) (kept cond))) }
 {
     let exec = keep(exec(alloc, &last.exec, &cond, room))?;
     let frame = keep(frame(alloc, &last.frame, &exec, &output, room))?;

@@ -15,16 +15,14 @@ mod reading;
 mod replacing;
 mod row;
 mod table;
-#[cfg(test)]
-mod tests;
-#[cfg(test)]
-mod translate_tests;
 mod translation;
 
 pub use call::translate;
 pub use laws::{
-    every_system_has_a_model, further_variable_changes_nothing, records_meet_the_table,
-    trace_formulas_have_one_truth,
+    derivations_compose, earlier_goals_still_hold, every_system_has_a_model,
+    further_variable_changes_nothing, goals_hold_in_order, instances_are_derivable,
+    more_axioms_derive_no_less, records_meet_the_table, trace_formulas_have_one_truth,
+    translations_keep_sorts, truth_tables_derive,
 };
 pub use model::valid_model;
 pub use replacing::{replacing_equals_is_congruent, replacing_replaces_the_meaning};

@@ -1,14 +1,15 @@
 // The values of macros, as far as they are kept.
 ghost use Rattle.std.specs.Prelude.{◌≡◌};
+ghost use Rattle.sq_term.specs.Macros.{word};
 ghost use Rattle.sq_term.specs.Records.{field, at_undefined};
-ghost use Rattle.sq_ground.specs.Builds.{Builds};
-ghost use Rattle.sq_ground.specs.Readings.{kept, kept_record, seen};
+ghost use Rattle.sq_ground.specs.Calls.Builds.{Builds};
+ghost use Rattle.sq_ground.specs.Calls.Readings.{kept, kept_record, seen};
 
-use crate::building::constant;
+use crate::building::{empty_message, truth};
 use crate::built::Built;
 use crate::ground_copy::copy_ground;
 use crate::reading::{Entry, Reading};
-use sq_term::{Builtin, GTerm, Macro, SizeFault};
+use sq_term::{GTerm, Macro, SizeFault};
 use std::alloc::Global;
 
 /// A copy of what is kept.
@@ -22,7 +23,7 @@ pub fn copy_kept(alloc: Global, t: &Option<GTerm>, room: usize) -> Result<Built,
 }
 
 fn of_entry(alloc: Global, e: &Entry, m: Macro, room: usize) -> Result<Built, SizeFault>
-    ensures { Builds room (field m (kept_record e.now)) result }
+    ensures { Builds room (field (word m) (kept_record e.now)) result }
 {
     match m {
         Macro::Input => copy_kept(alloc, &e.input, room),
@@ -34,18 +35,16 @@ fn of_entry(alloc: Global, e: &Entry, m: Macro, room: usize) -> Result<Built, Si
 }
 
 fn of_undefined(alloc: Global, m: Macro, room: usize) -> Result<Built, SizeFault>
-    ensures { Builds room (field m at_undefined) result }
+    ensures { Builds room (field (word m) at_undefined) result }
 {
     match m {
-        Macro::Input | Macro::Output | Macro::Frame => {
-            constant(alloc, Builtin::Empty.number(), room)
-        }
-        Macro::Cond | Macro::Exec => constant(alloc, Builtin::False.number(), room),
+        Macro::Input | Macro::Output | Macro::Frame => { empty_message(alloc, room) }
+        Macro::Cond | Macro::Exec => truth(alloc, false, room),
     }
 }
 
 /// The value of a macro at a position, or where there is none.
-#[tactic(auto, using(crate::proofs::Kept::kept_at, crate::proofs::Kept::kept_own, crate::proofs::Kept::kept_past))]
+#[tactic(auto, using(crate::proofs::Kept::kept_rules))]
 pub fn macro_value(
     alloc: Global,
     w: &Reading,
@@ -53,7 +52,7 @@ pub fn macro_value(
     at: Option<u32>,
     room: usize,
 ) -> Result<Built, SizeFault>
-    ensures { Builds room ((seen w.now).values m at) result }
+    ensures { Builds room ((seen w.now).values (word m) at) result }
 {
     match at {
         None => of_undefined(alloc, m, room),

@@ -1,10 +1,11 @@
 // Rows of ground terms are joined from the right.
 ghost use Rattle.std.specs.Prelude.{◌≡◌, length, map};
+ghost use Rattle.sq_term.specs.Builtins.{builtin_kind};
 ghost use Rattle.sq_term.specs.Ground.{ground};
-ghost use Rattle.sq_ground.specs.Builds.{Builds};
-ghost use Rattle.sq_ground.specs.Rows.{built_ground, joined, nested};
+ghost use Rattle.sq_ground.specs.Calls.Builds.{Builds};
+ghost use Rattle.sq_ground.specs.Calls.Rows.{built_ground, joined, nested};
 
-use crate::building::{binary, constant, ternary};
+use crate::building::{binary, conditional, constant};
 use crate::built::Built;
 use sq_term::{Builtin, SizeFault};
 use sqlite_items::Items;
@@ -27,16 +28,17 @@ fn within(x: Built, room: usize) -> Result<Built, SizeFault>
     Ok(x)
 }
 
-/// The parts under a connective nested to the right: its unit where there is none, and the part where
-/// there is one.
+/// The parts under a connective nested to the right: its unit where there is none, and the part
+/// where there is one.
 pub fn join(
     alloc: Global,
-    connective: u32,
-    unit: u32,
+    connective: Builtin,
+    unit: Builtin,
     row: Row,
     room: usize,
 ) -> Result<Built, SizeFault>
-    ensures { Builds room (joined connective unit (map built_ground row.parts)) result }
+    ensures { Builds room
+        (joined (builtin_kind connective) (builtin_kind unit) (map built_ground row.parts)) result }
 {
     let Row { mut parts, size: _ } = row;
     match parts.pop() {
@@ -51,7 +53,8 @@ pub fn join(
     }
 }
 
-/// The conditionals of these tests with these terms, nested to the right, with the other term at the end.
+/// The conditionals of these tests with these terms, nested to the right, with the other term at
+/// the end.
 pub fn nest(
     alloc: Global,
     tests: Row,
@@ -60,7 +63,9 @@ pub fn nest(
     room: usize,
 ) -> Result<Built, SizeFault>
     requires { length tests.parts ≡ length founds.parts }
-    ensures { Builds room (nested (map built_ground tests.parts) (map built_ground founds.parts) (ground other.term)) result }
+    ensures { Builds room
+        (nested (map built_ground tests.parts) (map built_ground founds.parts) (ground other.term))
+        result }
 {
     let Row {
         parts: mut tests,
@@ -74,7 +79,7 @@ pub fn nest(
     while let Some(test) = tests.pop() {
         match founds.pop() {
             Some(found) => {
-                all = ternary(alloc, Builtin::Ite.number(), test, found, all, room)?;
+                all = conditional(alloc, test, found, all, room)?;
             }
             None => unreachable!(),
         }

@@ -1,10 +1,10 @@
 // What is kept of the macros of a trace, position by position.
 ghost use Rattle.std.specs.Prelude.{◌≡◌, ◌-◌, ◌<◌, ◌^◌, [], length, map, get_or, IfOk};
-ghost use Rattle.sq_term.specs.Systems.{action_at, action_trees};
-ghost use Rattle.sq_term.specs.Translate.{translate as spec_translate};
+ghost use Rattle.sq_term.specs.Systems.{action_at, system_tree};
+ghost use Rattle.sq_term.specs.Translate.{translate};
 ghost use Rattle.sq_term.specs.Records.{at_undefined, record_of, records_of};
-ghost use Rattle.sq_ground.specs.Readings.{kept, kept_record, kept_records, seen, given};
-ghost use Rattle.sq_ground.specs.Alike.{Alike, AlikeRecord, AlikeRecords};
+ghost use Rattle.sq_ground.specs.Calls.Readings.{kept, kept_record, kept_records, seen, given};
+ghost use Rattle.sq_ground.specs.Calls.Alike.{Alike, AlikeRecord, AlikeRecords};
 
 use crate::building::{empty_message, truth};
 use crate::keeping::{init_entry, keep, next_entry, next_input, undefined_entry};
@@ -35,7 +35,8 @@ fn output_of(
     room: usize,
 ) -> Result<Option<GTerm>, NoMemory>
     requires { length w.now.model.now.list < 2 ^ 32 - 1 }
-    ensures { IfOk result (λ k. Alike room (kept k) (spec_translate (seen w.now) (given w.now) [] (action_at (action_trees s.now) act).output)) }
+    ensures { IfOk result (λ k. Alike room (kept k)
+        (translate (seen w.now) (given w.now) [] (action_at (system_tree s.now) act).output)) }
 {
     match s.action(act) {
         Some(action) => keep(build(alloc, &action.output, w, &[], room)),
@@ -51,7 +52,8 @@ fn cond_of(
     room: usize,
 ) -> Result<Option<GTerm>, NoMemory>
     requires { length w.now.model.now.list < 2 ^ 32 - 1 }
-    ensures { IfOk result (λ k. Alike room (kept k) (spec_translate (seen w.now) (given w.now) [] (action_at (action_trees s.now) act).cond)) }
+    ensures { IfOk result (λ k. Alike room (kept k)
+        (translate (seen w.now) (given w.now) [] (action_at (system_tree s.now) act).cond)) }
 {
     match s.action(act) {
         Some(action) => keep(build(alloc, &action.cond, w, &[], room)),
@@ -79,7 +81,9 @@ fn entry_after(
     requires few { length m.now.list < 2 ^ 32 - 1 }
     requires some { 0 < length entries.now }
     ensures { let before = kept_records entries.now in
-        IfOk result (λ e. AlikeRecord room (kept_record e) (record_of (action_trees s.now) m.now left before (get_or before (length entries.now - 1) at_undefined) i.now)) }
+        let last = get_or before (length entries.now - 1) at_undefined in
+        IfOk result (λ e. AlikeRecord room (kept_record e)
+        (record_of (system_tree s.now) m.now left before last i.now)) }
 {
     let last = &entries[entries.len() - 1];
     let input = next_input(alloc, last, room)?;
@@ -97,7 +101,8 @@ fn entry_after(
     next_entry(alloc, last, own_input(half), output, cond, room)
 }
 
-/// What is kept of each position, init first. A term that passes the room or depth 1,024 is not kept.
+/// What is kept of each position, init first. A term that passes the room or depth 1,024 is not
+/// kept.
 pub fn entries_of(
     alloc: Global,
     s: &System,
@@ -106,7 +111,8 @@ pub fn entries_of(
     room: usize,
 ) -> Result<Items<Entry>, NoMemory>
     requires { length m.now.list < 2 ^ 32 - 1 }
-    ensures { IfOk result (λ es. AlikeRecords room (kept_records es) (records_of (action_trees s.now) m.now left)) }
+    ensures { IfOk result
+        (λ es. AlikeRecords room (kept_records es) (records_of (system_tree s.now) m.now left)) }
 {
     let mut entries = Items::new(alloc);
     entries.push(init_entry(alloc, room)?)?;

@@ -1,10 +1,10 @@
 // Terms become ground terms.
 ghost use Rattle.std.specs.Prelude.{◌≡◌, ◌-◌, ◌<◌, ◌^◌, length, map};
 ghost use Rattle.sq_term.specs.View.{term_tree, term_trees};
-ghost use Rattle.sq_term.specs.Translate.{translate as spec_translate, translate_all};
-ghost use Rattle.sq_ground.specs.Builds.{Builds, BuildsAll};
-ghost use Rattle.sq_ground.specs.Readings.{seen, given};
-ghost use Rattle.sq_ground.specs.Rows.{BuildsEach};
+ghost use Rattle.sq_term.specs.Translate as spec;
+ghost use Rattle.sq_ground.specs.Calls.Builds.{Builds, BuildsAll};
+ghost use Rattle.sq_ground.specs.Calls.Readings.{seen, given};
+ghost use Rattle.sq_ground.specs.Calls.Rows.{BuildsEach};
 
 use crate::building::{an_atom, apply, name, truth};
 use crate::built::{Arguments, Built};
@@ -29,7 +29,8 @@ pub fn build(
     room: usize,
 ) -> Result<Built, SizeFault>
     requires { length w.now.model.now.list < 2 ^ 32 - 1 }
-    ensures { Builds room (spec_translate (seen w.now) (given w.now) bs.now (term_tree t.now)) result }
+    ensures { Builds room (spec.translate (seen w.now) (given w.now) bs.now (term_tree t.now))
+        result }
 {
     match t {
         Term::Name(n, is) => name(*n, idx_values(alloc, w, bs, is.as_slice())?, room),
@@ -67,24 +68,12 @@ pub fn build(
         Term::Forall(sort, body) => {
             let lists = over_domain(alloc, w.model, *sort, bs)?;
             let row = build_each(alloc, body, w, lists.as_slice(), room)?;
-            join(
-                alloc,
-                Builtin::And.number(),
-                Builtin::True.number(),
-                row,
-                room,
-            )
+            join(alloc, Builtin::And, Builtin::True, row, room)
         }
         Term::Exists(sort, body) => {
             let lists = over_domain(alloc, w.model, *sort, bs)?;
             let row = build_each(alloc, body, w, lists.as_slice(), room)?;
-            join(
-                alloc,
-                Builtin::Or.number(),
-                Builtin::False.number(),
-                row,
-                room,
-            )
+            join(alloc, Builtin::Or, Builtin::False, row, room)
         }
         Term::Find(c, test, found, other) => {
             let lists = choices(alloc, w.model, *c, bs)?;
@@ -108,7 +97,8 @@ fn build_all(
     room: usize,
 ) -> Result<Arguments, SizeFault>
     requires { length w.now.model.now.list < 2 ^ 32 - 1 }
-    ensures { BuildsAll room (translate_all (seen w.now) (given w.now) bs.now (term_trees terms.now)) result }
+    ensures { BuildsAll room
+        (spec.translate_all (seen w.now) (given w.now) bs.now (term_trees terms.now)) result }
 {
     let mut out = Items::new(alloc);
     let mut nodes: usize = 0;
@@ -137,7 +127,9 @@ fn build_each(
     room: usize,
 ) -> Result<Row, SizeFault>
     requires { length w.now.model.now.list < 2 ^ 32 - 1 }
-    ensures { BuildsEach room (map (λ bs. spec_translate (seen w.now) (given w.now) bs (term_tree body.now)) lists.now) result }
+    ensures { BuildsEach room
+        (map (λ bs. spec.translate (seen w.now) (given w.now) bs (term_tree body.now)) lists.now)
+        result }
 {
     let mut parts = Items::new(alloc);
     let mut nodes: usize = 0;

@@ -1,7 +1,9 @@
 use Rattle.std.proofs.Common.{◌≡◌, ◌-◌, ◌++◌, map}
 use Rattle.sq_term.specs.Lists.{count}
-use Rattle.sq_ground.specs.Instances.{with_position}
+use Rattle.sq_ground.specs.Calls.Instances.{with_position}
 use Rattle.sq_ground.proofs.instances.over_times.Given as goal
 
 abbrev pub invariant-loop-k : goal.invariant-loop-k
-invariant-loop-k l = l.lists ++ map (with_position l.bs) (count l.k (l.positions - l.k)) ≡ map (with_position l.bs) (count 0 l.positions)
+invariant-loop-k l =
+    l.lists ++ map (with_position l.bs) (count l.k (l.positions - l.k))
+    ≡ map (with_position l.bs) (count 0 l.positions)

@@ -1,5 +1,5 @@
 use Rattle.std.proofs.Common.{[]}
-use Rattle.sq_ground.specs.Rules.{world_at}
+use Rattle.sq_ground.specs.Theories.{world_at}
 use Rattle.sq_ground.proofs.ReplacedMeaning.{meaning_replaced}
 use Rattle.sq_ground.proofs.replacing.replacing_replaces_the_meaning.Goals as goal
 
