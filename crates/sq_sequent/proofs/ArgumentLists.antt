@@ -6,18 +6,19 @@ use Rattle.std.proofs.lemmas.Bool.Decides.{Decides-eqb}
 use Rattle.sq_term.specs.declared.term.Idx.{Idx}
 use Rattle.sq_term.specs.declared.term.Term.{Term}
 use Rattle.sq_term.specs.declared.term.Term.TheVariants as tm
-use Rattle.sq_term.specs.Signatures.{takes_boolean}
-use Rattle.sq_term.specs.Syntax.{TermTree, fun, TermTrees}
+use Rattle.sq_term.specs.Builtins.{takes_boolean}
+use Rattle.sq_term.specs.Measure.{count_terms}
+use Rattle.sq_term.specs.Symbols.{Kind, same_kind, kind_of}
 use Rattle.sq_term.specs.TsEquality.{is_same_idx, is_same_idx-decides}
 use Rattle.sq_term.specs.View.{term_tree, term_trees}
-use Rattle.sq_term.proofs.BoolTests.{and_split, and_both}
+use Rattle.sq_term.proofs.BoolTests.{and_both}
 use Rattle.sq_term.proofs.Views.{term_tree-Fun, open_rules}
 use Rattle.sq_system.specs.declared.sequent.Sequent.{Sequent}
 use Rattle.sq_system.specs.Sequents.{SequentTree, sequent_tree}
-use Rattle.sq_system.specs.Typing.{count_terms}
 use Rattle.sq_sequent.specs.Premises.{asking}
 use Rattle.sq_sequent.specs.Logic.{sequent_trees, asked_alike, arguments_asked, applications_row}
-use Rattle.sq_sequent.proofs.Sorting.{count_terms-trees}
+use Rattle.sq_term.proofs.Connectives.{count_terms-trees}
+use Rattle.sq_term.proofs.KindNumbers.{kind_of-same, same_kind-decides}
 
 trees-push : (xs : List Sequent) (x : Sequent) (ys : List SequentTree) → sequent_trees (xs ++ x ∷ []) ++ ys ≡ sequent_trees xs ++ (sequent_tree x ∷ ys)
 trees-push [] x ys = refl
@@ -28,7 +29,7 @@ rest_is : (terms : List Term) (k : ℕ) (t : Term) → k < length terms → t �
 rest_is terms k t h e = drop-cons terms k t h ∙ ap (λ x. x ∷ drop (suc k) terms) (sym e)
 
 -- one more premise
-pub argument-next : (s : SequentTree) (f k : ℕ) (us vs : List Term) (u v : Term) (out out' : List Sequent) (p : Sequent) (r : List SequentTree)
+pub argument-next : (s : SequentTree) (f : Kind) (k : ℕ) (us vs : List Term) (u v : Term) (out out' : List Sequent) (p : Sequent) (r : List SequentTree)
     → k < length us → k < length vs → u ≡ get_or us k u → v ≡ get_or vs k v
     → sequent_tree p ≡ asking s (asked_alike (takes_boolean f k) (term_tree u) (term_tree v)) → out' ≡ out ++ p ∷ []
     → sequent_trees out ++ arguments_asked s f k (term_trees (drop k us)) (term_trees (drop k vs)) ≡ r
@@ -55,6 +56,16 @@ other_number m n e = go (m == n) refl
     go true h = absurd (e ((Decides-eqb m n).0 h))
     go false h = refl
 
+same_function : (f g : ℕ) → f ≡ g → same_kind (kind_of f) (kind_of g) ≡ true
+same_function f g e = (same_kind-decides (kind_of f) (kind_of g)).1 (ap kind_of e)
+
+other_function : (f g : ℕ) → f ≢ g → same_kind (kind_of f) (kind_of g) ≡ false
+other_function f g e = go (same_kind (kind_of f) (kind_of g)) refl
+  where
+    go : (b : Bool) → same_kind (kind_of f) (kind_of g) ≡ b → b ≡ false
+    go true h = absurd (e (kind_of-same f g ((same_kind-decides (kind_of f) (kind_of g)).0 h)))
+    go false h = refl
+
 other_indices : (is js : List Idx) → is ≢ js → pointwise is_same_idx is js ≡ false
 other_indices is js e = go (pointwise is_same_idx is js) refl
   where
@@ -69,73 +80,60 @@ no_second : (a b : Bool) → b ≡ false → (a && b) ≡ false
 no_second true b e = e
 no_second false b e = refl
 
-pub applications-same : (s : SequentTree) (f g : ℕ) (is js : List Idx) (us vs : List Term) → f ≡ g → is ≡ js → length us ≡ length vs
-    → applications_row s (term_tree (tm.Fun f is us)) (term_tree (tm.Fun g js vs)) ≡ Some (arguments_asked s f 0 (term_trees us) (term_trees vs))
+-- the test of the applications
+abbrev alike : ℕ → ℕ → List Idx → List Idx → List Term → List Term → Bool
+alike f g is js us vs =
+    same_kind (kind_of f) (kind_of g)
+    && (pointwise is_same_idx is js && (count_terms (term_trees us) == count_terms (term_trees vs)))
+
+applications : (s : SequentTree) (f g : ℕ) (is js : List Idx) (us vs : List Term) (b : Bool)
+    → alike f g is js us vs ≡ b
+    → applications_row s (term_tree (tm.Fun f is us)) (term_tree (tm.Fun g js vs))
+    ≡ row_where b (arguments_asked s (kind_of f) 0 (term_trees us) (term_trees vs))
 unfolding applications_row
+applications s f g is js us vs b e =
+    rw (term_tree-Fun f is us, term_tree-Fun g js vs)
+    (ap (λ q. row_where q (arguments_asked s (kind_of f) 0 (term_trees us) (term_trees vs))) e)
+
+pub applications-same : (s : SequentTree) (f g : ℕ) (is js : List Idx) (us vs : List Term) → f ≡ g
+    → is ≡ js → length us ≡ length vs
+    → applications_row s (term_tree (tm.Fun f is us)) (term_tree (tm.Fun g js vs))
+    ≡ Some (arguments_asked s (kind_of f) 0 (term_trees us) (term_trees vs))
 applications-same s f g is js us vs e i n =
-    rw (term_tree-Fun f is us, term_tree-Fun g js vs)
-    (ap (λ b. row_where b (arguments_asked s f 0 (term_trees us) (term_trees vs)))
-    (and_both (f == g) _ (same_number f g e)
+    applications s f g is js us vs true
+    (and_both (same_kind (kind_of f) (kind_of g)) _ (same_function f g e)
     (and_both (pointwise is_same_idx is js) _ ((pointwise_decides is_same_idx-decides is js).1 i)
-    (same_number (count_terms (term_trees us)) (count_terms (term_trees vs)) (count_terms-trees us ∙ (n ∙ sym (count_terms-trees vs)))))))
+    (same_number (count_terms (term_trees us)) (count_terms (term_trees vs))
+    (count_terms-trees us ∙ (n ∙ sym (count_terms-trees vs))))))
 
-pub applications-function : (s : SequentTree) (f g : ℕ) (is js : List Idx) (us vs : List Term) → f ≢ g → applications_row s (term_tree (tm.Fun f is us)) (term_tree (tm.Fun g js vs)) ≡ None
-unfolding applications_row
+pub applications-function : (s : SequentTree) (f g : ℕ) (is js : List Idx) (us vs : List Term) → f ≢ g
+    → applications_row s (term_tree (tm.Fun f is us)) (term_tree (tm.Fun g js vs)) ≡ None
 applications-function s f g is js us vs e =
-    rw (term_tree-Fun f is us, term_tree-Fun g js vs)
-    (ap (λ b. row_where (b && (pointwise is_same_idx is js && (count_terms (term_trees us) == count_terms (term_trees vs)))) (arguments_asked s f 0 (term_trees us) (term_trees vs))) (other_number f g e))
+    applications s f g is js us vs false
+    (ap (λ b. b && (pointwise is_same_idx is js && (count_terms (term_trees us) == count_terms (term_trees vs))))
+    (other_function f g e))
 
-pub applications-indices : (s : SequentTree) (f g : ℕ) (is js : List Idx) (us vs : List Term) → is ≢ js → applications_row s (term_tree (tm.Fun f is us)) (term_tree (tm.Fun g js vs)) ≡ None
-unfolding applications_row
+pub applications-indices : (s : SequentTree) (f g : ℕ) (is js : List Idx) (us vs : List Term) → is ≢ js
+    → applications_row s (term_tree (tm.Fun f is us)) (term_tree (tm.Fun g js vs)) ≡ None
 applications-indices s f g is js us vs e =
-    rw (term_tree-Fun f is us, term_tree-Fun g js vs)
-    (ap (λ b. row_where b (arguments_asked s f 0 (term_trees us) (term_trees vs)))
-    (no_second (f == g) _ (ap (λ b. b && (count_terms (term_trees us) == count_terms (term_trees vs))) (other_indices is js e))))
+    applications s f g is js us vs false
+    (no_second (same_kind (kind_of f) (kind_of g)) _
+    (ap (λ b. b && (count_terms (term_trees us) == count_terms (term_trees vs))) (other_indices is js e)))
 
-pub applications-count : (s : SequentTree) (f g : ℕ) (is js : List Idx) (us vs : List Term) → length us ≢ length vs → applications_row s (term_tree (tm.Fun f is us)) (term_tree (tm.Fun g js vs)) ≡ None
-unfolding applications_row
+pub applications-count : (s : SequentTree) (f g : ℕ) (is js : List Idx) (us vs : List Term)
+    → length us ≢ length vs
+    → applications_row s (term_tree (tm.Fun f is us)) (term_tree (tm.Fun g js vs)) ≡ None
 applications-count s f g is js us vs e =
-    rw (term_tree-Fun f is us, term_tree-Fun g js vs)
-    (ap (λ b. row_where b (arguments_asked s f 0 (term_trees us) (term_trees vs)))
-    (no_second (f == g) _
+    applications s f g is js us vs false
+    (no_second (same_kind (kind_of f) (kind_of g)) _
     (no_second (pointwise is_same_idx is js) _
-    (other_number (count_terms (term_trees us)) (count_terms (term_trees vs)) (λ i. e (sym (count_terms-trees us) ∙ (i ∙ count_terms-trees vs)))))))
+    (other_number (count_terms (term_trees us)) (count_terms (term_trees vs))
+    (λ i. e (sym (count_terms-trees us) ∙ (i ∙ count_terms-trees vs))))))
 
-pub ruleset application_rules = (open_rules, applications-same, applications-function, applications-indices, applications-count)
-
--- what the row says of two terms that have premises
-pub record AsksArguments (s : SequentTree) (t u : TermTree) (ps : List SequentTree) : Type 0 where
-  pub function : ℕ
-  pub indices : List Idx
-  pub first : TermTrees
-  pub second : TermTrees
-  pub left_is : t ≡ fun function indices first
-  pub right_is : u ≡ fun function indices second
-  pub as_many : count_terms first ≡ count_terms second
-  pub asked : ps ≡ arguments_asked s function 0 first second
-
-same-applications : (s : SequentTree) (f g : ℕ) (is js : List Idx) (us vs : TermTrees) (ps : List SequentTree) (b : Bool)
-    → ((f == g) && (pointwise is_same_idx is js && (count_terms us == count_terms vs))) ≡ b → row_where b (arguments_asked s f 0 us vs) ≡ Some ps
-    → AsksArguments s (fun f is us) (fun g js vs) ps
-same-applications s f g is js us vs ps false h e = absurd (cc)
-same-applications s f g is js us vs ps true h e =
-    let p = and_split (f == g) _ h in
-    let q = and_split (pointwise is_same_idx is js) _ p.1 in
-    let x : f ≡ g = (Decides-eqb f g).0 p.0 in
-    let y : is ≡ js = (pointwise_decides is_same_idx-decides is js).0 q.0 in
-    let z : ps ≡ arguments_asked s f 0 us vs = cc in
-    record {
-      function = f;
-      indices = is;
-      first = us;
-      second = vs;
-      left_is = refl;
-      right_is = sym (ap (λ n. fun n is vs) x ∙ ap (λ ks. fun g ks vs) y);
-      as_many = (Decides-eqb (count_terms us) (count_terms vs)).0 q.1;
-      asked = z;
-    }
-
-pub applications-are : (s : SequentTree) (t u : TermTree) (ps : List SequentTree) → applications_row s t u ≡ Some ps → AsksArguments s t u ps
-unfolding applications_row
-applications-are s (fun f is us) (fun g js vs) ps e = same-applications s f g is js us vs ps _ refl e
-applications-are s _ _ ps e = absurd (cc)
+pub ruleset application_rules = (
+  open_rules,
+  applications-same,
+  applications-function,
+  applications-indices,
+  applications-count,
+)

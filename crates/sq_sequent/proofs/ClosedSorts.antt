@@ -6,11 +6,15 @@ use Rattle.sq_base.specs.declared.sort.Sort.{Sort}
 use Rattle.sq_base.specs.declared.sort.Sort.TheVariants.{Message, Boolean, Index, Timestamp}
 use Rattle.sq_term.specs.declared.term.Idx.{Idx}
 use Rattle.sq_term.specs.declared.term.Idx.TheVariants.{Free, Bound}
+use Rattle.sq_term.specs.Macros.{macro_indices}
 use Rattle.sq_term.specs.Closed.{idx_closed, indices_closed, ts_closed, is_closed, are_closed}
+use Rattle.sq_term.specs.Measure.{count_terms}
+use Rattle.sq_term.specs.Pure.{is_binder_sort}
+use Rattle.sq_term.specs.Symbols.{Kind, function_number}
 use Rattle.sq_term.specs.Syntax.{TsTree, free, bound, init, pred, action, TermTree, name, fun, macro, schema, diff, le, ts_eq, idx_eq, happens, all, some, find, TermTrees, nil, cons}
 use Rattle.sq_term.specs.TreeEquality.{is_same_sort}
 use Rattle.sq_term.proofs.BoolTests.{and_split}
-use Rattle.sq_system.specs.Typing.{Signature, has_sort_at, has_count_at, is_index, are_indices, is_timestamp, applies, result_sort, is_binder_sort, count_terms, argument_sort, macro_sort, has_sort, have_sorts}
+use Rattle.sq_typing.specs.Typing.{Signature, has_sort_at, has_count_at, is_index, are_indices, is_timestamp, applies, result_sort, argument_sort, macro_sort, has_sort, have_sorts}
 use Rattle.sq_subst.specs.Leaves.{Leaves, map_term}
 use Rattle.sq_subst.proofs.TestLaws.{no_tests, passes_none}
 use Rattle.sq_subst.proofs.Fusion.{kept}
@@ -49,10 +53,14 @@ module _ (g : Signature) where
     term-closed : (bs : List Sort) (s : Sort) (t : TermTree) → has_sort g bs s t ≡ true → is_closed (length bs) t ≡ true
     term-closed bs s (name n is) e = indices-closed bs is (and_split (has_count_at g.names n (length is)) _ (and_split (is_same_sort Message s) _ e).1).1
     term-closed bs s (fun f is ts) e =
-        let p = and_split (is_same_sort (result_sort g (slice_get g.funs f)) s) _ e in
-        let q = and_split (applies g (slice_get g.funs f) (length is) (count_terms ts)) _ p.1 in
+        let p = and_split (is_same_sort (result_sort (slice_get g.funs (function_number f))) s) _ e in
+        let q = and_split (applies (slice_get g.funs (function_number f)) (length is) (count_terms ts)) _ p.1 in
         both_kept (are_indices g bs is) (have_sorts g bs f 0 ts) (indices_closed (length bs) is) (are_closed (length bs) ts) (indices-closed bs is) (terms-closed bs f 0 ts) q.1
-    term-closed bs s (macro m t) e = time-closed bs t (and_split (is_same_sort (macro_sort m) s) _ e).1
+    term-closed bs s (macro m t) e =
+        both_kept (are_indices g bs (macro_indices m)) (is_timestamp g bs t)
+        (indices_closed (length bs) (macro_indices m)) (ts_closed (length bs) t)
+        (indices-closed bs (macro_indices m)) (time-closed bs t)
+        (and_split (is_same_sort (macro_sort m) s) _ e).1
     term-closed bs s (schema k) e = refl
     term-closed bs s (diff t u) e = both_kept (has_sort g bs s t) (has_sort g bs s u) (is_closed (length bs) t) _ (term-closed bs s t) (term-closed bs s u) e
     term-closed bs s (le t u) e =
@@ -71,7 +79,7 @@ module _ (g : Signature) where
         (λ h. subst (λ n. is_closed n u ≡ true) (below-indices c bs) (term-closed (replicate c Index ++ bs) Message u h)) (term-closed bs Message v))
         (and_split (is_same_sort Message s) _ e).1
 
-    terms-closed : (bs : List Sort) (f k : ℕ) (ts : TermTrees) → have_sorts g bs f k ts ≡ true → are_closed (length bs) ts ≡ true
+    terms-closed : (bs : List Sort) (f : Kind) (k : ℕ) (ts : TermTrees) → have_sorts g bs f k ts ≡ true → are_closed (length bs) ts ≡ true
     terms-closed bs f k nil e = refl
     terms-closed bs f k (cons t ts) e =
         both_kept (has_sort g bs (argument_sort f k) t) (have_sorts g bs f (suc k) ts) (is_closed (length bs) t) _ (term-closed bs (argument_sort f k) t) (terms-closed bs f (suc k) ts) e

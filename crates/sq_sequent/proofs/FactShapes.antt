@@ -1,151 +1,140 @@
--- What it says of a term and a formula that the formula is the term's fact.
-use Rattle.std.proofs.Common.{◌≡◌, ℕ, zero, suc, refl, sym, ap, ◌∙◌, subst, List, [], ◌∷◌, Option, Some, None, Bool, true, false, cond, ◌&&◌}
+-- The fact that is computed of a term is the fact of its shape.
+use Rattle.std.proofs.Common.{◌≡◌, ℕ, suc, ◌==◌, refl, sym, ap, ◌∙◌, subst, List, [], Option, Some, None, Bool, true, false, cond, ◌&&◌}
+use Rattle.std.proofs.lemmas.Bool.{eqb-true}
+use Rattle.sq_base.specs.declared.sort.Sort.{Sort}
+use Rattle.sq_base.specs.declared.sort.Sort.TheVariants.{Message, Boolean}
 use Rattle.sq_term.specs.declared.signature.FunDecl.{FunDecl}
-use Rattle.sq_term.specs.Symbols as kind
-use Rattle.sq_term.specs.Symbols.{Kind, kind_of, function_number}
+use Rattle.sq_term.specs.Formulas.{unary, binary, ternary, equal, conditional, pair, first, second, of_bool}
+use Rattle.sq_term.specs.Signatures.{declared_at, is_sign, is_check, is_signature}
+use Rattle.sq_term.specs.Symbols.{declared}
 use Rattle.sq_term.specs.Syntax.{TermTree, fun, find, TermTrees, nil, cons}
 use Rattle.sq_term.specs.TreeEquality.{is_same_tree}
-use Rattle.sq_term.proofs.BoolTests.{and_split, function_number-kind_of}
+use Rattle.sq_term.proofs.BoolTests.{and_split, and_both, number_itself}
 use Rattle.sq_term.proofs.SameTrees.{is_same_tree-decides}
-use Rattle.sq_ground.specs.Rules.{is_signature}
-use Rattle.sq_sequent.specs.Views.{Two, no_two, two, as_binary, binary_in, one_of, as_unary}
-use Rattle.sq_sequent.specs.Premises.{negation, conjunction, implication, equality, equivalence}
-use Rattle.sq_sequent.specs.Facts.{true_message, Three, no_three, three, three_of, conditional_fact, first_fact, second_fact, boolean_fact, accepts, signature_fact, check_fact, find_fact, fact_by_kind, fact_of}
-use Rattle.sq_sequent.proofs.Inversion.{binary_tree, unary_tree, as_binary_is, binary_in_is, as_unary_is}
+use Rattle.sq_sequent.specs.Facts.{conditional_fact, part_of, part_fact, boolean_fact, find_fact, arguments_of, accepts_parts, accepts, check_fact, fact_by_shape, fact_of, fact_sort}
+use Rattle.sq_sequent.specs.Rows as row
+use Rattle.sq_sequent.specs.Rows.{HasFact, signed}
 
-abbrev pub ternary_tree : ℕ → TermTree → TermTree → TermTree → TermTree
-ternary_tree f a b c = fun f [] (cons a (cons b (cons c nil)))
+-- ---- signatures
 
-abbrev pub conditional_tree : TermTree → TermTree → TermTree → TermTree
-conditional_tree b u v = ternary_tree (function_number kind.conditional) b u v
+same : (t : TermTree) → is_same_tree t t ≡ true
+same t = (is_same_tree-decides t t).1 refl
 
-abbrev pub pair_tree : TermTree → TermTree → TermTree
-pair_tree u v = binary_tree (function_number kind.pairing) u v
+arguments-there : (k : ℕ) (ts : TermTrees) → arguments_of k (fun (declared k) [] ts) ≡ Some ts
+arguments-there k ts = ap (λ b. cond b (Some ts) None) (number_itself k)
 
-abbrev pub first_tree : TermTree → TermTree
-first_tree t = unary_tree (function_number kind.first) t
+accepted : (k : ℕ) (m key : TermTree)
+    → accepts k m (binary (declared k) m key) (unary (declared (suc (suc k))) key) ≡ true
+accepted k m key =
+    ap (λ o. accepts_parts m o (arguments_of (suc (suc k)) (unary (declared (suc (suc k))) key)))
+    (arguments-there k (cons m (cons key nil)))
+    ∙ (ap (accepts_parts m (Some (cons m (cons key nil)))) (arguments-there (suc (suc k)) (cons key nil))
+    ∙ and_both (is_same_tree m m) (is_same_tree key key) (same m) (same key))
 
-abbrev pub second_tree : TermTree → TermTree
-second_tree t = unary_tree (function_number kind.second) t
+-- an application of the declared function with these arguments
+arguments-are : (k : ℕ) (t : TermTree) (ts : TermTrees) → arguments_of k t ≡ Some ts
+    → t ≡ fun (declared k) [] ts
+arguments-are k (fun (declared i) [] us) ts e = go (i == k) refl e
+  where
+    go : (b : Bool) → (i == k) ≡ b → cond b (Some us) None ≡ Some ts → fun (declared i) [] us ≡ fun (declared k) [] ts
+    go true q r =
+        let z : i ≡ k = eqb-true i k q in
+        let w : us ≡ ts = cc in
+        ap (λ n. fun (declared n) [] us) z ∙ ap (fun (declared k) []) w
+    go false q r = absurd (cc)
+arguments-are k _ ts e = absurd (cc)
 
-abbrev pub boolean_tree : TermTree → TermTree
-boolean_tree b = unary_tree (function_number kind.of_bool) b
+parts-are : (m : TermTree) (o q : Option TermTrees) → accepts_parts m o q ≡ true
+    → (key : TermTree) × (o ≡ Some (cons m (cons key nil))) × (q ≡ Some (cons key nil))
+parts-are m (Some (cons n (cons k nil))) (Some (cons l nil)) e =
+    let h = and_split (is_same_tree m n) (is_same_tree k l) e in
+    let x : m ≡ n = (is_same_tree-decides m n).0 h.0 in
+    let y : k ≡ l = (is_same_tree-decides k l).0 h.1 in
+    (k, ap (λ z. Some (cons z (cons k nil))) (sym x), ap (λ z. Some (cons z nil)) (sym y))
+parts-are m _ _ e = let z : false ≡ true = e in absurd (cc)
 
--- checksign(m,sign(m,k),pk(k)), where sign is function f
-abbrev pub accepted_tree : ℕ → TermTree → TermTree → TermTree
-accepted_tree f m k = ternary_tree (suc f) m (binary_tree f m k) (unary_tree (suc (suc f)) k)
-
--- of t, which is a conditional
-abbrev pub of_both_cases : TermTree → TermTree → TermTree → TermTree → TermTree
-of_both_cases t b u v = conjunction (implication b (equality t u)) (implication (negation b) (equality t v))
-
-pub data HasFact (funs : List FunDecl) : TermTree → TermTree → Type 0 where
-  of_conditional : (b u v : TermTree) → HasFact funs (conditional_tree b u v) (of_both_cases (conditional_tree b u v) b u v)
-  of_first : (u v : TermTree) → HasFact funs (first_tree (pair_tree u v)) (equality (first_tree (pair_tree u v)) u)
-  of_second : (u v : TermTree) → HasFact funs (second_tree (pair_tree u v)) (equality (second_tree (pair_tree u v)) v)
-  of_boolean : (b : TermTree) → HasFact funs (boolean_tree b) (equivalence (equality (boolean_tree b) true_message) b)
-  of_signature : (f : ℕ) (m k : TermTree) → is_signature funs f ≡ true → HasFact funs (accepted_tree f m k) (accepted_tree f m k)
-  of_find : (c : ℕ) (F u v : TermTree) → HasFact funs (find c F u v) (find_fact (find c F u v) c F u v)
-
-three-is : (ts : TermTrees) (a b c : TermTree) → three_of ts ≡ three a b c → ts ≡ cons a (cons b (cons c nil))
-three-is (cons x (cons y (cons z nil))) a b c e = cc
-three-is nil a b c e = cc
-three-is (cons x nil) a b c e = cc
-three-is (cons x (cons y nil)) a b c e = cc
-three-is (cons x (cons y (cons z (cons u us)))) a b c e = cc
-
-one-is : (ts : TermTrees) (a : TermTree) → one_of ts ≡ Some a → ts ≡ cons a nil
-one-is (cons x nil) a e = cc
-one-is nil a e = cc
-one-is (cons x (cons y ys)) a e = cc
-
--- the parts of a signature that is accepted
-accepted : (f : ℕ) (m s p : TermTree) (o : Two) (q : Option TermTree) → as_binary f s ≡ o → as_unary (suc (suc f)) p ≡ q → accepts m o q ≡ true
-    → (k : TermTree) × (s ≡ binary_tree f m k) × (p ≡ unary_tree (suc (suc f)) k)
-accepted f m s p (two n k) (Some l) i j h =
-    let t = and_split (is_same_tree m n) (is_same_tree k l) h in
-    let x : m ≡ n = (is_same_tree-decides m n).0 t.0 in
-    let y : k ≡ l = (is_same_tree-decides k l).0 t.1 in
-    (k, as_binary_is f s n k i ∙ ap (λ z. binary_tree f z k) (sym x), as_unary_is (suc (suc f)) p l j ∙ ap (unary_tree (suc (suc f))) (sym y))
-accepted f m s p no_two q i j h = let z : false ≡ true = h in absurd (cc)
-accepted f m s p (two n k) None i j h = let z : false ≡ true = h in absurd (cc)
+-- ---- both ways
 
 module _ (funs : List FunDecl) where
-  -- the formula, if there is one, is the term's fact
-  abbrev pub Shaped : TermTree → Option TermTree → Type 0
-  Shaped t o = (F : TermTree) → o ≡ Some F → HasFact funs t F
+  check-role : (k : ℕ) → is_signature funs k ≡ true → fact_sort funs (fun (declared (suc k)) [] nil) ≡ Boolean
+  unfolding fact_sort
+  check-role k e =
+      let h = and_split (is_sign (declared_at funs k).role) _ e in
+      ap (λ b. cond b Boolean Message) (and_split (is_check (declared_at funs (suc k)).role) _ h.1).0
 
-  nothing : (t : TermTree) → Shaped t None
-  nothing t F e = absurd (cc)
+  pub fact-is : (x : Sort) (t F : TermTree) → HasFact funs x t F
+      → (fact_sort funs t ≡ x) × (fact_of funs t ≡ Some F)
+  unfolding fact_sort fact_of fact_by_shape part_of
+  fact-is _ _ _ (row.of_conditional b u v) = (refl, refl)
+  fact-is _ _ _ (row.of_first u v) = (refl, refl)
+  fact-is _ _ _ (row.of_second u v) = (refl, refl)
+  fact-is _ _ _ (row.of_boolean b) = (refl, refl)
+  fact-is _ _ _ (row.of_signature f m k e) = (
+    check-role f e,
+    ap (λ b. cond b (Some (signed f m k)) None)
+        (and_both (is_signature funs f) _ e (accepted f m k)),
+  )
+  fact-is _ _ _ (row.of_find c F u v) = (refl, refl)
 
-  something : (t G : TermTree) → HasFact funs t G → Shaped t (Some G)
-  something t G h F e = let y : F ≡ G = cc in subst (HasFact funs t) (sym y) h
+  signed-shape : (k : ℕ) (m s p F : TermTree) (b : Bool) → (is_signature funs k && accepts k m s p) ≡ b
+      → cond b (Some (ternary (declared (suc k)) m s p)) None ≡ Some F
+      → HasFact funs Boolean (ternary (declared (suc k)) m s p) F
+  signed-shape k m s p F false q e = absurd (cc)
+  signed-shape k m s p F true q e =
+      let h = and_split (is_signature funs k) (accepts k m s p) q in
+      let a = parts-are m (arguments_of k s) (arguments_of (suc (suc k)) p) h.1 in
+      let x : s ≡ binary (declared k) m a.0 = arguments-are k s (cons m (cons a.0 nil)) a.1 in
+      let y : p ≡ unary (declared (suc (suc k))) a.0 = arguments-are (suc (suc k)) p (cons a.0 nil) a.2 in
+      let t : ternary (declared (suc k)) m s p ≡ signed k m a.0 =
+      ap (λ z. ternary (declared (suc k)) m z p) x ∙ ap (ternary (declared (suc k)) m (binary (declared k) m a.0)) y in
+      let w : F ≡ ternary (declared (suc k)) m s p = cc in
+      subst (λ z. HasFact funs Boolean (ternary (declared (suc k)) m s p) z) (sym w)
+      (subst (λ z. HasFact funs Boolean z z) (sym t) (row.of_signature k m a.0 h.0))
 
-  conditional-shape : (ts : TermTrees) (o : Three) → three_of ts ≡ o
-      → Shaped (fun (function_number kind.conditional) [] ts) (conditional_fact (fun (function_number kind.conditional) [] ts) o)
-  conditional-shape ts no_three q = nothing (fun (function_number kind.conditional) [] ts)
-  conditional-shape ts (three b u v) q =
-      subst (λ us. Shaped (fun (function_number kind.conditional) [] us) (conditional_fact (fun (function_number kind.conditional) [] us) (three b u v)))
-      (sym (three-is ts b u v q)) (something (conditional_tree b u v) (of_both_cases (conditional_tree b u v) b u v) (of_conditional b u v))
+  is-check : (k : ℕ) (m s p F : TermTree) (b : Bool) → (is_signature funs k && accepts k m s p) ≡ b
+      → cond b (Some (ternary (declared (suc k)) m s p)) None ≡ Some F
+      → fact_sort funs (ternary (declared (suc k)) m s p) ≡ Boolean
+  unfolding fact_sort
+  is-check k m s p F false q e = absurd (cc)
+  is-check k m s p F true q e = check-role k (and_split (is_signature funs k) (accepts k m s p) q).0
 
-  argument-is : (ts : TermTrees) (u v : TermTree) → binary_in (function_number kind.pairing) (one_of ts) ≡ two u v → ts ≡ cons (pair_tree u v) nil
-  argument-is ts u v q = one-is ts (pair_tree u v) (binary_in_is (function_number kind.pairing) (one_of ts) u v q)
+  check-shape : (k : ℕ) (ts : TermTrees) (F : TermTree)
+      → check_fact funs k (fun (declared k) [] ts) ts ≡ Some F
+      → HasFact funs (fact_sort funs (fun (declared k) [] ts)) (fun (declared k) [] ts) F
+  check-shape (suc k) (cons m (cons s (cons p nil))) F e =
+      subst (λ x. HasFact funs x (ternary (declared (suc k)) m s p) F)
+      (sym (is-check k m s p F (is_signature funs k && accepts k m s p) refl e))
+      (signed-shape k m s p F (is_signature funs k && accepts k m s p) refl e)
+  check-shape _ _ F e = absurd (cc)
 
-  first-shape : (ts : TermTrees) (o : Two) → binary_in (function_number kind.pairing) (one_of ts) ≡ o
-      → Shaped (fun (function_number kind.first) [] ts) (first_fact (fun (function_number kind.first) [] ts) o)
-  first-shape ts no_two q = nothing (fun (function_number kind.first) [] ts)
-  first-shape ts (two u v) q =
-      subst (λ us. Shaped (fun (function_number kind.first) [] us) (first_fact (fun (function_number kind.first) [] us) (two u v)))
-      (sym (argument-is ts u v q)) (something (first_tree (pair_tree u v)) (equality (first_tree (pair_tree u v)) u) (of_first u v))
+  first-shape : (p F : TermTree) → part_fact (first p) (part_of true p) ≡ Some F
+      → HasFact funs Message (first p) F
+  unfolding part_of
+  first-shape (pair u v) F e =
+      let z : F ≡ equal (first (pair u v)) u = cc in
+      subst (HasFact funs Message (first (pair u v))) (sym z) (row.of_first u v)
+  first-shape _ F e = absurd (cc)
 
-  second-shape : (ts : TermTrees) (o : Two) → binary_in (function_number kind.pairing) (one_of ts) ≡ o
-      → Shaped (fun (function_number kind.second) [] ts) (second_fact (fun (function_number kind.second) [] ts) o)
-  second-shape ts no_two q = nothing (fun (function_number kind.second) [] ts)
-  second-shape ts (two u v) q =
-      subst (λ us. Shaped (fun (function_number kind.second) [] us) (second_fact (fun (function_number kind.second) [] us) (two u v)))
-      (sym (argument-is ts u v q)) (something (second_tree (pair_tree u v)) (equality (second_tree (pair_tree u v)) v) (of_second u v))
+  second-shape : (p F : TermTree) → part_fact (second p) (part_of false p) ≡ Some F
+      → HasFact funs Message (second p) F
+  unfolding part_of
+  second-shape (pair u v) F e =
+      let z : F ≡ equal (second (pair u v)) v = cc in
+      subst (HasFact funs Message (second (pair u v))) (sym z) (row.of_second u v)
+  second-shape _ F e = absurd (cc)
 
-  boolean-shape : (ts : TermTrees) (o : Option TermTree) → one_of ts ≡ o
-      → Shaped (fun (function_number kind.of_bool) [] ts) (boolean_fact (fun (function_number kind.of_bool) [] ts) o)
-  boolean-shape ts None q = nothing (fun (function_number kind.of_bool) [] ts)
-  boolean-shape ts (Some b) q =
-      subst (λ us. Shaped (fun (function_number kind.of_bool) [] us) (boolean_fact (fun (function_number kind.of_bool) [] us) (Some b)))
-      (sym (one-is ts b q)) (something (boolean_tree b) (equivalence (equality (boolean_tree b) true_message) b) (of_boolean b))
-
-  signed-shape : (f : ℕ) (m s p : TermTree) (b : Bool) → (is_signature funs f && accepts m (as_binary f s) (as_unary (suc (suc f)) p)) ≡ b
-      → Shaped (ternary_tree (suc f) m s p) (cond b (Some (ternary_tree (suc f) m s p)) None)
-  signed-shape f m s p false q = nothing (ternary_tree (suc f) m s p)
-  signed-shape f m s p true q =
-      let r = and_split (is_signature funs f) _ q in
-      let k = accepted f m s p (as_binary f s) (as_unary (suc (suc f)) p) refl refl r.1 in
-      let x : ternary_tree (suc f) m s p ≡ accepted_tree f m k.0 = ap (λ y. ternary_tree (suc f) m y p) k.1 ∙ ap (ternary_tree (suc f) m (binary_tree f m k.0)) k.2 in
-      subst (λ t. Shaped t (Some t)) (sym x) (something (accepted_tree f m k.0) (accepted_tree f m k.0) (of_signature f m k.0 r.0))
-
-  signature-shape : (f : ℕ) (ts : TermTrees) (o : Three) → three_of ts ≡ o → Shaped (fun (suc f) [] ts) (signature_fact funs f (fun (suc f) [] ts) o)
-  signature-shape f ts no_three q = nothing (fun (suc f) [] ts)
-  signature-shape f ts (three m s p) q =
-      subst (λ us. Shaped (fun (suc f) [] us) (signature_fact funs f (fun (suc f) [] us) (three m s p))) (sym (three-is ts m s p q)) (signed-shape f m s p _ refl)
-
-  check-shape : (f : ℕ) (ts : TermTrees) → Shaped (fun f [] ts) (check_fact funs f (fun f [] ts) (three_of ts))
-  check-shape zero ts = nothing (fun 0 [] ts)
-  check-shape (suc f) ts = signature-shape f ts (three_of ts) refl
-
-  -- under the function's number
-  numbered : (f : ℕ) (k : Kind) (ts : TermTrees) → f ≡ function_number k → Shaped (fun (function_number k) [] ts) (fact_by_kind funs k (function_number k) ts (fun (function_number k) [] ts))
-      → Shaped (fun f [] ts) (fact_by_kind funs k f ts (fun f [] ts))
-  numbered f k ts q h = subst (λ n. Shaped (fun n [] ts) (fact_by_kind funs k n ts (fun n [] ts))) (sym q) h
-
-  by-kind : (f : ℕ) (k : Kind) (ts : TermTrees) → f ≡ function_number k → Shaped (fun f [] ts) (fact_by_kind funs k f ts (fun f [] ts))
-  by-kind f kind.conditional ts q = numbered f kind.conditional ts q (conditional-shape ts (three_of ts) refl)
-  by-kind f kind.first ts q = numbered f kind.first ts q (first-shape ts (binary_in (function_number kind.pairing) (one_of ts)) refl)
-  by-kind f kind.second ts q = numbered f kind.second ts q (second-shape ts (binary_in (function_number kind.pairing) (one_of ts)) refl)
-  by-kind f kind.of_bool ts q = numbered f kind.of_bool ts q (boolean-shape ts (one_of ts) refl)
-  by-kind f (kind.declared k) ts q = check-shape f ts
-  by-kind f _ ts q = nothing (fun f [] ts)
-
-  pub fact-shape : (t : TermTree) → Shaped t (fact_of funs t)
-  unfolding fact_of
-  fact-shape (fun f [] ts) = by-kind f (kind_of f) ts (sym (function_number-kind_of f))
-  fact-shape (fun f (i ∷ is) ts) = nothing (fun f (i ∷ is) ts)
-  fact-shape (find c F u v) = something (find c F u v) (find_fact (find c F u v) c F u v) (of_find c F u v)
-  fact-shape t = nothing t
+  pub fact-shape : (t F : TermTree) → fact_of funs t ≡ Some F → HasFact funs (fact_sort funs t) t F
+  unfolding fact_sort fact_of fact_by_shape part_of
+  fact-shape (conditional b u v) F e =
+      let z : F ≡ conditional_fact (conditional b u v) b u v = cc in
+      subst (HasFact funs Message (conditional b u v)) (sym z) (row.of_conditional b u v)
+  fact-shape (first p) F e = first-shape p F e
+  fact-shape (second p) F e = second-shape p F e
+  fact-shape (of_bool b) F e =
+      let z : F ≡ boolean_fact (of_bool b) b = cc in
+      subst (HasFact funs Message (of_bool b)) (sym z) (row.of_boolean b)
+  fact-shape (fun (declared k) [] ts) F e = check-shape k ts F e
+  fact-shape (find c G u v) F e =
+      let z : F ≡ find_fact (find c G u v) c G u v = cc in
+      subst (HasFact funs Message (find c G u v)) (sym z) (row.of_find c G u v)
+  fact-shape _ F e = absurd (cc)

@@ -14,6 +14,7 @@ use Rattle.sq_subst.specs.Substitution.{substitution, instance_of}
 use Rattle.sq_subst.proofs.Rooms.{ts_size-positive, ts_depth-positive, size-positive, depth-positive}
 use Rattle.sq_sequent.specs.declared.fault.RuleFault.TheVariants.{TooLarge}
 use Rattle.sq_sequent.specs.Logic.{held}
+use Rattle.sq_system.specs.Limits.{most_nodes}
 use Rattle.sq_sequent.specs.Uses.{instance_on}
 use Rattle.sq_sequent.proofs.Held.{larger}
 
@@ -78,25 +79,25 @@ module _ (L : Leaves) where
     none-flatter (cons t ts) m = omega (arith, no-flatter t m, none-flatter ts m)
 
 -- where the formula's side is too large, so is its instance
-pub side-refused : (side : Side) (ms : List TermTree) (F : TermTree) → within 8388608 (projected side F) ≡ Err size_fault.TooLarge → held (instance_on side ms F) ≡ Err TooLarge
+pub side-refused : (side : Side) (ms : List TermTree) (F : TermTree) → within most_nodes (projected side F) ≡ Err size_fault.TooLarge → held (instance_on side ms F) ≡ Err TooLarge
 side-refused side ms F h =
     ap (λ b. cond b (Ok (instance_on side ms F)) (Err TooLarge))
-    (larger (size (projected side F)) (depth (projected side F)) (size (instance_on side ms F)) (depth (instance_on side ms F)) (unfit (fits 8388608 (projected side F)) h)
+    (larger (size (projected side F)) (depth (projected side F)) (size (instance_on side ms F)) (depth (instance_on side ms F)) (unfit (fits most_nodes (projected side F)) h)
     (no-smaller (substitution [] [] ms) (projected side F) 0) (no-flatter (substitution [] [] ms) (projected side F) 0))
   where
     unfit : (b : Bool) → (if b then Ok (projected side F) else Err size_fault.TooLarge) ≡ Err size_fault.TooLarge → b ≡ false
     unfit true e = absurd (cc)
     unfit false e = refl
 
-side-answered : (side : Side) (F c : TermTree) → within 8388608 (projected side F) ≡ Ok c → c ≡ projected side F
-side-answered side F c = go (fits 8388608 (projected side F))
+side-answered : (side : Side) (F c : TermTree) → within most_nodes (projected side F) ≡ Ok c → c ≡ projected side F
+side-answered side F c = go (fits most_nodes (projected side F))
   where
     go : (b : Bool) → (if b then Ok (projected side F) else Err size_fault.TooLarge) ≡ Ok c → c ≡ projected side F
     go true e = cc
     go false e = absurd (cc)
 
 -- and where it is not, the instance is that of the side
-pub of-side : (side : Side) (ms : List TermTree) (F c : TermTree) → within 8388608 (projected side F) ≡ Ok c → held (instance_of [] ms c) ≡ held (instance_on side ms F)
+pub of-side : (side : Side) (ms : List TermTree) (F c : TermTree) → within most_nodes (projected side F) ≡ Ok c → held (instance_of [] ms c) ≡ held (instance_on side ms F)
 of-side side ms F c h = ap (λ t. held (instance_of [] ms t)) (side-answered side F c h)
 
 pub ruleset instance_rules = (side-refused, of-side)

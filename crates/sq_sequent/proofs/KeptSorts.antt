@@ -6,10 +6,13 @@ use Rattle.sq_base.specs.declared.sort.Sort.{Sort}
 use Rattle.sq_base.specs.declared.sort.Sort.TheVariants.{Message, Boolean, Index, Timestamp}
 use Rattle.sq_term.specs.declared.term.Idx.{Idx}
 use Rattle.sq_term.specs.declared.signature.FunDecl.{FunDecl}
+use Rattle.sq_term.specs.Measure.{count_terms}
+use Rattle.sq_term.specs.Pure.{is_binder_sort}
+use Rattle.sq_term.specs.Symbols.{Kind, function_number}
 use Rattle.sq_term.specs.Syntax.{TsTree, free, bound, init, pred, action, TermTree, name, fun, macro, schema, diff, le, ts_eq, idx_eq, happens, all, some, find, TermTrees, nil, cons}
 use Rattle.sq_term.specs.TreeEquality.{is_same_sort}
 use Rattle.sq_term.proofs.BoolTests.{and_split, and_both}
-use Rattle.sq_system.specs.Typing.{Signature, has_sort_at, has_count_at, is_index, are_indices, is_timestamp, applies, result_sort, macro_sort, is_binder_sort, count_terms, argument_sort, has_sort, have_sorts}
+use Rattle.sq_typing.specs.Typing.{Signature, has_sort_at, has_count_at, is_index, are_indices, is_timestamp, applies, result_sort, macro_sort, argument_sort, has_sort, have_sorts}
 use Rattle.sq_subst.specs.Leaves.{Leaves, map_ts, map_term, map_terms}
 
 -- the symbols of a signature, with other schema variables and other variables
@@ -20,14 +23,14 @@ pub both_kept : (a b c d : Bool) → (a ≡ true → c ≡ true) → (b ≡ true
 both_kept a b c d f k e = let p = and_split a b e in and_both c d (f p.0) (k p.1)
 
 pub application_kept : (g h : Signature) (s : Sort) (i n i' n' : ℕ) (o : Option FunDecl) (a b c d : Bool) → i' ≡ i → n' ≡ n → (a ≡ true → c ≡ true) → (b ≡ true → d ≡ true)
-    → (is_same_sort (result_sort g o) s && (applies g o i n && (a && b))) ≡ true → (is_same_sort (result_sort h o) s && (applies h o i' n' && (c && d))) ≡ true
+    → (is_same_sort (result_sort o) s && (applies o i n && (a && b))) ≡ true → (is_same_sort (result_sort o) s && (applies o i' n' && (c && d))) ≡ true
 application_kept g h s i n i' n' (Some x) a b c d ei en f k e =
     let p = and_split (is_same_sort x.result s) _ e in
-    let q = and_split (applies g (Some x) i n) (a && b) p.1 in
-    let same : applies h (Some x) i' n' ≡ applies h (Some x) i n = λ t. applies h (Some x) (ei t) (en t) in
-    and_both (is_same_sort x.result s) _ p.0 (and_both (applies h (Some x) i' n') (c && d) (same ∙ q.0) (both_kept a b c d f k q.1))
+    let q = and_split (applies (Some x) i n) (a && b) p.1 in
+    let same : applies (Some x) i' n' ≡ applies (Some x) i n = λ t. applies (Some x) (ei t) (en t) in
+    and_both (is_same_sort x.result s) _ p.0 (and_both (applies (Some x) i' n') (c && d) (same ∙ q.0) (both_kept a b c d f k q.1))
 application_kept g h s i n i' n' None a b c d ei en f k e =
-    let q = and_split (applies g None i n) (a && b) (and_split (is_same_sort Index s) _ e).1 in
+    let q = and_split (applies None i n) (a && b) (and_split (is_same_sort Index s) _ e).1 in
     let z : false ≡ true = q.0 in absurd (cc)
 
 -- R m bs cs: below m binders the sorts bs become cs
@@ -77,7 +80,7 @@ module _ (L : Leaves) (g : Signature) (n : ℕ) (vars : List Sort) (R : ℕ → 
         both_kept (is_same_sort Message s) _ (is_same_sort Message s) _ (λ q. q)
         (both_kept (has_count_at g.names k (length is)) (are_indices g bs is) (has_count_at g.names k (length (map (L.index m) is))) _ (counted g.names k m is) (indices_kept is m bs cs r)) e
     sort_kept (fun f is ts) m bs cs s r e =
-        application_kept g h s (length is) (count_terms ts) (length (map (L.index m) is)) (count_terms (map_terms L m ts)) (slice_get g.funs f)
+        application_kept g h s (length is) (count_terms ts) (length (map (L.index m) is)) (count_terms (map_terms L m ts)) (slice_get g.funs (function_number f))
         (are_indices g bs is) (have_sorts g bs f 0 ts) (are_indices h cs (map (L.index m) is)) (have_sorts h cs f 0 (map_terms L m ts))
         (length-map is (L.index m)) (count_kept ts m) (indices_kept is m bs cs r) (sorts_kept ts m bs cs f 0 r) e
     sort_kept (macro x t) m bs cs s r e = both_kept (is_same_sort (macro_sort x) s) (is_timestamp g bs t) (is_same_sort (macro_sort x) s) _ (λ q. q) (time_kept t m bs cs r) e
@@ -108,7 +111,7 @@ module _ (L : Leaves) (g : Signature) (n : ℕ) (vars : List Sort) (R : ℕ → 
         (both_kept (has_sort g (replicate c Index ++ bs) Message a) (has_sort g bs Message b) (has_sort h (replicate c Index ++ cs) Message (map_term L (m + c) a)) _
         (sort_kept a (m + c) (replicate c Index ++ bs) (replicate c Index ++ cs) Message inner) (sort_kept b m bs cs Message r))) e
 
-    sorts_kept : (ts : TermTrees) (m : ℕ) (bs cs : List Sort) (f k : ℕ) → R m bs cs → have_sorts g bs f k ts ≡ true → have_sorts h cs f k (map_terms L m ts) ≡ true
+    sorts_kept : (ts : TermTrees) (m : ℕ) (bs cs : List Sort) (f : Kind) (k : ℕ) → R m bs cs → have_sorts g bs f k ts ≡ true → have_sorts h cs f k (map_terms L m ts) ≡ true
     sorts_kept nil m bs cs f k r e = refl
     sorts_kept (cons t ts) m bs cs f k r e =
         both_kept (has_sort g bs (argument_sort f k) t) (have_sorts g bs f (suc k) ts) (has_sort h cs (argument_sort f k) (map_term L m t)) _

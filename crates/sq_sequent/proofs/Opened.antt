@@ -7,13 +7,13 @@ use Rattle.sq_base.specs.declared.sort.Sort.TheVariants.{Message, Boolean, Index
 use Rattle.sq_term.specs.declared.term.Idx.{Idx}
 use Rattle.sq_term.specs.declared.term.Idx.TheVariants.{Free, Bound}
 use Rattle.sq_term.specs.Arguments.{ArgTree, an_index, a_time}
-use Rattle.sq_term.specs.Symbols.{kind_of}
+use Rattle.sq_term.specs.Measure.{count_terms}
 use Rattle.sq_term.specs.Syntax.{TsTree, free, bound, init, pred, action, TermTree, name, fun, macro, schema, diff, le, ts_eq, idx_eq, happens, all, some, find, TermTrees, nil, cons}
-use Rattle.sq_term.specs.Pure.{is_connective, has_no_indices, is_trace_sort, count_of, is_pure, are_pure}
+use Rattle.sq_term.specs.Pure.{is_connective, has_no_indices, is_binder_sort, is_pure, are_pure}
 use Rattle.sq_term.proofs.SameTrees.{is_same_sort-decides}
 use Rattle.sq_term.proofs.BoolTests.{and_split, and_both}
-use Rattle.sq_system.specs.Facts.{holds_diff, hold_diff}
-use Rattle.sq_system.specs.Typing.{Signature, has_sort_at, has_count_at, is_index, are_indices, is_timestamp, has_sort}
+use Rattle.sq_typing.specs.Diffs.{holds_diff, hold_diff}
+use Rattle.sq_typing.specs.Typing.{Signature, has_sort_at, has_count_at, is_index, are_indices, is_timestamp, has_sort}
 use Rattle.sq_subst.specs.Leaves.{Leaves, map_term, map_terms}
 use Rattle.sq_subst.specs.Substitution.{index_or, time_or, substitution, opened}
 use Rattle.sq_subst.proofs.TestLaws.{no_tests, passes_none}
@@ -146,9 +146,9 @@ module _ (g : Signature) (vars : List Sort) (keep : Keep g.vars vars) (x : Sort)
 -- ---- what a walk that keeps schema variables does not change
 
 module _ (L : Leaves) (same : (m k : ℕ) → L.message m k ≡ schema k) where
-  count_kept : (ts : TermTrees) (m : ℕ) → count_of (map_terms L m ts) ≡ count_of ts
+  count_kept : (ts : TermTrees) (m : ℕ) → count_terms (map_terms L m ts) ≡ count_terms ts
   count_kept nil m = refl
-  count_kept (cons t ts) m = ap (λ n. n + 1) (count_kept ts m)
+  count_kept (cons t ts) m = ap suc (count_kept ts m)
 
   no_indices_kept : (f : Idx → Idx) (is : List Idx) → has_no_indices (map f is) ≡ has_no_indices is
   no_indices_kept f [] = refl
@@ -157,7 +157,7 @@ module _ (L : Leaves) (same : (m k : ℕ) → L.message m k ≡ schema k) where
   mutual
     pub purity_kept : (t : TermTree) (m : ℕ) → is_pure (map_term L m t) ≡ is_pure t
     purity_kept (name n is) m = refl
-    purity_kept (fun f is ts) m = λ i. is_connective (kind_of f) (count_kept ts m i) && (no_indices_kept (L.index m) is i && purities_kept ts m i)
+    purity_kept (fun f is ts) m = λ i. is_connective (f) (count_kept ts m i) && (no_indices_kept (L.index m) is i && purities_kept ts m i)
     purity_kept (macro x t) m = refl
     purity_kept (schema k) m = ap is_pure (same m k)
     purity_kept (diff a b) m = refl
@@ -165,8 +165,8 @@ module _ (L : Leaves) (same : (m k : ℕ) → L.message m k ≡ schema k) where
     purity_kept (ts_eq t s) m = refl
     purity_kept (idx_eq i j) m = refl
     purity_kept (happens t) m = refl
-    purity_kept (all s t) m = ap (λ b. is_trace_sort s && b) (purity_kept t (m + 1))
-    purity_kept (some s t) m = ap (λ b. is_trace_sort s && b) (purity_kept t (m + 1))
+    purity_kept (all s t) m = ap (λ b. is_binder_sort s && b) (purity_kept t (m + 1))
+    purity_kept (some s t) m = ap (λ b. is_binder_sort s && b) (purity_kept t (m + 1))
     purity_kept (find c t a b) m = refl
 
     purities_kept : (ts : TermTrees) (m : ℕ) → are_pure (map_terms L m ts) ≡ are_pure ts

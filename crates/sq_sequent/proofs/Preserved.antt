@@ -1,453 +1,413 @@
--- Each premise of a well-formed sequent is well-formed.
-use Rattle.std.proofs.Common.{◌≡◌, ℕ, refl, sym, ap, subst, ◌∙◌, List, [], ◌∷◌, Option, Some, None, Ok, Err, Bool, true, false, cond, ◌||◌, map}
-use Rattle.std.specs.Prelude.{slice_get, nat_lt, length}
+-- Each premise of a row is well-formed where its sequent is.
+use Rattle.std.proofs.Common.{◌≡◌, ℕ, refl, sym, ap, subst, ◌∙◌, List, [], ◌∷◌, ◌++◌, Some, None, Option, Bool, true, false, map, length, get_or}
+use Rattle.std.specs.Prelude.{slice_get, slice_set, if◌then◌else◌}
 use Rattle.std.specs.List.{list_all}
+use Rattle.std.proofs.lemmas.Option.{get_or_from_slice_get}
 use Rattle.sq_base.specs.declared.sort.Sort.{Sort}
 use Rattle.sq_base.specs.declared.sort.Sort.TheVariants.{Message, Boolean}
 use Rattle.sq_term.specs.declared.term.Side.{Side}
 use Rattle.sq_term.specs.declared.term.Side.TheVariants.{Left, Right, Both}
+use Rattle.sq_term.specs.Formulas.{falsity, negation, both, either, implies, equal}
 use Rattle.sq_term.specs.Lists.{Each}
+use Rattle.sq_term.specs.Pure.{is_binder_sort, is_pure}
+use Rattle.sq_term.specs.declared.term.Idx.{Idx}
+use Rattle.sq_term.specs.Symbols as kind
+use Rattle.sq_term.specs.Symbols.{Kind}
+use Rattle.sq_term.specs.Syntax.{TermTree, fun, TermTrees, all, some}
+use Rattle.sq_term.specs.Systems.{SystemTree}
 use Rattle.sq_term.proofs.Members.{each_none, each_cons, each_single}
-use Rattle.sq_term.specs.Pure.{is_pure}
-use Rattle.sq_term.specs.Arguments.{ArgTree}
-use Rattle.sq_term.specs.Syntax.{TermTree, all, some}
-use Rattle.sq_term.specs.Systems.{ActionTree}
-use Rattle.sq_term.specs.TreeEquality.{is_same_sort}
 use Rattle.sq_term.proofs.BoolTests.{and_split, and_both}
+use Rattle.sq_typing.specs.Functions.{are_functions}
+use Rattle.sq_typing.specs.Standing.{Subject, of_trace, of_side, may_stand}
+use Rattle.sq_typing.specs.Typing.{Signature, has_sort}
+use Rattle.sq_typing.proofs.Formulas.{sort-of, stands, only-stands, first-stands, second-stands, falsity-stands, negation-stands, equal-stands}
 use Rattle.sq_subst.specs.Projection.{projected}
-use Rattle.sq_system.specs.Environments.{EnvTree, StmtTree}
-use Rattle.sq_system.specs.Facts.{holds_diff}
-use Rattle.sq_system.specs.Functions.{are_functions}
-use Rattle.sq_system.specs.Sequents.{SequentTree, trace, local, equiv}
+use Rattle.sq_subst.specs.Substitution.{opened}
+use Rattle.sq_system.specs.Sequents.{Item, Body, trace_body, local_body, equiv_body, SequentTree, sequent, trace, local, equiv, vars_of, hyps_of, body_of}
 use Rattle.sq_system.specs.Sizes.{fits, all_fit}
-use Rattle.sq_system.specs.Typing.{Signature, is_binder_sort, result_sort, applies, has_sort}
-use Rattle.sq_system.specs.WellFormed.{signature_of, is_formula, is_trace_formula, is_local_formula, is_sorted, vars_of, is_sequent_of, is_well_formed_for, is_well_formed, is_statement, is_environment}
+use Rattle.sq_system.specs.Statements.{StmtTree, no_actions}
+use Rattle.sq_system.specs.Usable.{no_statement, statement_at, system_of}
+use Rattle.sq_system.specs.WellFormed.{signature_of, subject_of, is_item, is_sorted_body, is_sorted, is_sequent_of, is_well_formed_for, is_environment}
 use Rattle.sq_system.proofs.EnvLaws.{environment_parts}
 use Rattle.sq_sequent.specs.declared.step.Step.{Step}
-use Rattle.sq_sequent.specs.declared.step.Step.TheVariants as step
+use Rattle.sq_sequent.specs.declared.step.Target.{Target}
 use Rattle.sq_sequent.specs.declared.step.TermArg.{TermArg}
-use Rattle.sq_sequent.specs.declared.fault.RuleFault.TheVariants.{TooLarge}
-use Rattle.sq_sequent.specs.declared.step.ValArg.{ValArg}
-use Rattle.sq_subst.specs.Substitution.{opened}
-use Rattle.sq_sequent.specs.Views.{Two, no_two, two, Binding, no_binding, binding, hyps_of, goal_of, local_goal_of, hyp_of, binary_in, unary_in, all_in, some_in}
-use Rattle.sq_sequent.specs.Places.{term_at}
-use Rattle.sq_sequent.specs.Standing.{signature_for, where_standing, term_in, value_in}
-use Rattle.sq_sequent.specs.Premises.{falsity, negation, equality, asking, assuming, with_hyps, without, pure_ones, pure_or_false}
-use Rattle.sq_sequent.specs.Logic.{closing_row, hyp_row, impi_row, noti_row, andi_row, orl_row, orr_row, ande_row, ore_row, impe_row, note_row, cut_row, em_row, drop_row, proj_row, trace_row, refl_row, sym_row, trans_row, arg_row, asked_at, exi_row, assumed_at, alle_row, logic_row, within_limits, judged, logic_premises}
-use Rattle.sq_sequent.specs.Facts.{standing_fact, assumed_fact, fact_row}
+use Rattle.sq_sequent.specs.Laws.{PreservedByRows}
+use Rattle.sq_sequent.specs.Logic.{arguments_asked}
+use Rattle.sq_sequent.specs.Premises.{asking, assuming, with_hyps, with_variable, new_variable, without, pure_ones, pure_or_false}
+use Rattle.sq_sequent.specs.Rewriting.{Rewriting, turned, rewritten, item_rewritten}
+use Rattle.sq_sequent.specs.Rows as row
+use Rattle.sq_sequent.specs.Rows.{Row, Rewritten, in_goal, in_hypothesis, in_items, IsOn, AsksOfTrace}
 use Rattle.sq_sequent.specs.Sides.{on_side}
-use Rattle.sq_sequent.specs.Uses.{offered, messages_in, instance_on, used_with, use_row}
-use Rattle.sq_sequent.proofs.BuiltinSorts.{falsity-formula}
-use Rattle.sq_sequent.proofs.Inversion.{binary_tree, unary_tree, binary_in_is, unary_in_is}
-use Rattle.sq_sequent.proofs.Rows.{of_same_variables, of_no_statement}
-use Rattle.sq_sequent.proofs.Offers.{offered-is, messages-stand}
+use Rattle.sq_sequent.specs.Site.{Site}
+use Rattle.sq_sequent.specs.Standing.{signature_at}
+use Rattle.sq_sequent.specs.Standing as standing
+use Rattle.sq_sequent.specs.Uses.{instance_on}
+use Rattle.sq_sequent.specs.Views.{goal_of, local_goal_of}
+use Rattle.sq_sequent.proofs.ArgumentSorts.{arguments-stand}
+use Rattle.sq_sequent.proofs.FactSorts.{fact-stands}
+use Rattle.sq_sequent.proofs.KeptSorts.{with_variables}
+use Rattle.sq_sequent.proofs.QuantifierSorts.{wider, sequent-widened, all-new, some-new, all-value, some-value, binders-all, binders-some, with_variable-sorted, with_variable-vars}
+use Rattle.sq_sequent.proofs.RewriteSorts.{IsTyped, typed, turned-typed, stands-rewritten, items-kept}
+use Rattle.sq_sequent.proofs.SideSorts.{side-stands, sides-stand}
+use Rattle.sq_sequent.proofs.Suited.{suited, hyp-suited, goal-suited, hyps-sorted, body-sorted, with_hyps-sorted, without-sorted, assuming-sorted, asking-sorted, asking-suits, assuming-suits, pure_ones-sorted, all-set, local_goal_is}
+use Rattle.sq_sequent.proofs.Offers.{offered-stated}
+use Rattle.sq_sequent.proofs.Terms.{term-stands, messages-stand, messages-count}
 use Rattle.sq_sequent.proofs.UseSorts.{use_stands}
-use Rattle.sq_sequent.proofs.Opened.{is_value}
-use Rattle.sq_sequent.proofs.QuantifierSound.{all_in_is, some_in_is}
-use Rattle.sq_sequent.proofs.Witness.{value-stands, all-suited, some-suited}
-use Rattle.sq_sequent.proofs.QuantifierSorts.{IsSorted, alli-sorts, exe-sorts}
-use Rattle.sq_sequent.proofs.ArgumentSorts.{arguments-suited}
-use Rattle.sq_sequent.proofs.ArgumentLists.{AsksArguments, applications-are}
-use Rattle.sq_sequent.proofs.Suited.{suited, suited-formula, suited-from, hyp-suited, goal-suited, assuming-sorted, asking-sorted, asking-suits, assuming-suits, without-sorted, pure_ones-sorted, conjunct-first, conjunct-second, disjunct-first, disjunct-second, implication-first, implication-second, negated}
-use Rattle.sq_sequent.proofs.FactSorts.{stood, fact-stands}
-use Rattle.sq_sequent.proofs.SideSorts.{side-formula, side-formulas}
-use Rattle.sq_sequent.proofs.RewriteSorts.{rew_sorts}
-use Rattle.sq_sequent.proofs.WrittenSuited.{signature-at, same-vars, Stands, stands-suited, negation-suited, equation-sides, equation-of, written-stands}
+use Rattle.sq_sequent.proofs.Values.{value-sort}
 
--- ---- false may stand everywhere
+-- ---- the variables of premises
 
-falsity-suited : (g : Signature) (s : SequentTree) → are_functions g.funs ≡ true → suited g s falsity ≡ true
-falsity-suited g (trace vars hyps goal) h = and_both (is_formula g falsity) true (falsity-formula g h) refl
-falsity-suited g (equiv vars hyps known items) h = and_both (is_formula g falsity) true (falsity-formula g h) refl
-falsity-suited g (local side vars hyps goal) h = one side
-  where
-    one : (q : Side) → is_local_formula g q falsity ≡ true
-    one Both = falsity-formula g h
-    one Left = and_both (is_formula g falsity) true (falsity-formula g h) refl
-    one Right = and_both (is_formula g falsity) true (falsity-formula g h) refl
+vars-asking : (s : SequentTree) (t : TermTree) → vars_of (asking s t) ≡ vars_of s
+unfolding asking
+vars-asking (sequent vars hyps body) t = refl
 
--- ---- an equation the other way round
+pub vars-assuming : (s : SequentTree) (t : TermTree) → vars_of (assuming s t) ≡ vars_of s
+unfolding assuming
+vars-assuming (sequent vars hyps body) t = refl
 
-swapped-formula : (g : Signature) (u v : TermTree) → is_formula g (equality u v) ≡ true → is_formula g (equality v u) ≡ true
-swapped-formula g u v h =
-    let p = and_split (is_same_sort (result_sort g (slice_get g.funs 7)) Boolean) _ h in
-    let q = and_split (applies g (slice_get g.funs 7) 0 2) _ p.1 in
-    let r = and_split (has_sort g [] Message u) _ q.1 in
-    let t = and_split (has_sort g [] Message v) true r.1 in
-    and_both (is_same_sort (result_sort g (slice_get g.funs 7)) Boolean) _ p.0
-    (and_both (applies g (slice_get g.funs 7) 0 2) _ q.0
-    (and_both (has_sort g [] Message v) _ t.0 (and_both (has_sort g [] Message u) true r.0 refl)))
+vars-with : (s : SequentTree) (H : List TermTree) → vars_of (with_hyps H s) ≡ vars_of s
+unfolding with_hyps
+vars-with (sequent vars hyps body) H = refl
 
-or_turned : (a b : Bool) → (a || (b || false)) ≡ false → (b || (a || false)) ≡ false
-or_turned true b e = cc
-or_turned false true e = cc
-or_turned false false e = refl
+vars-side : (s : SequentTree) (side : Side) → vars_of (on_side side s) ≡ vars_of s
+vars-side (trace vars H c) side = refl
+vars-side (local own vars H c) side = refl
+vars-side (equiv vars H known items) side = refl
 
-swapped-suited : (g : Signature) (s : SequentTree) (u v : TermTree) → suited g s (equality u v) ≡ true → suited g s (equality v u) ≡ true
-swapped-suited g s u v =
-    suited-from g s (equality u v) (equality v u) (swapped-formula g u v)
-    (λ h. let z : false ≡ true = h in cc)
-    (λ h. or_turned (holds_diff u) (holds_diff v) h)
+-- ---- what the sequent speaks of
+
+subject-on : (body : Body) (side : Side) → IsOn body side → subject_of body ≡ of_side side
+subject-on (trace_body c) side h = absurd h
+subject-on (local_body own c) side h = ap of_side h
+subject-on (equiv_body known items) side h = absurd h
+
+on-a-side : (s : SequentTree) (t : TermTree) → local_goal_of s ≡ Some t
+    → (side : Side) × (subject_of (body_of s) ≡ of_side side)
+unfolding local_goal_of
+on-a-side (trace vars H c) t e = absurd (cc)
+on-a-side (local side vars H c) t e = (side, refl)
+on-a-side (equiv vars H known items) t e = absurd (cc)
+
+-- ---- what premises put into a sequent
+
+module _ (g : Signature) (ok : are_functions g.funs ≡ true) where
+  equal-suited : (about : Subject) (side : Side) (u v : TermTree) → about ≡ of_side side
+      → may_stand g about Message u ≡ true → may_stand g about Message v ≡ true
+      → may_stand g about Boolean (equal u v) ≡ true
+  equal-suited about side u v e h k =
+      subst (λ q. may_stand g q Boolean (equal u v) ≡ true) (sym e)
+      (equal-stands g ok side u v (subst (λ q. may_stand g q Message u ≡ true) e h)
+      (subst (λ q. may_stand g q Message v ≡ true) e k))
+
+  proj-sorted : (s : SequentTree) (side : Side) → IsOn (body_of s) Both → is_sorted g s ≡ true
+      → is_sorted g (on_side side s) ≡ true
+  proj-sorted (trace vars H c) side l h = absurd l
+  proj-sorted (equiv vars H known items) side l h = absurd l
+  proj-sorted (local own vars H c) side l h =
+      let k : is_sorted g (local Both vars H c) ≡ true =
+      subst (λ q. is_sorted g (local q vars H c) ≡ true) l h in
+      let p = and_split (list_all (may_stand g (of_side Both) Boolean) H) (may_stand g (of_side Both) Boolean c) k in
+      and_both (list_all (may_stand g (of_side side) Boolean) (map (projected side) H)) _ (sides-stand g side H p.0)
+      (side-stands g side Boolean c p.1)
+
+  pure-goal : (t : TermTree) → has_sort g [] Boolean t ≡ true
+      → may_stand g of_trace Boolean (pure_or_false t) ≡ true
+  pure-goal t h = go (is_pure t) refl
+    where
+      go : (b : Bool) → is_pure t ≡ b → may_stand g of_trace Boolean (if b then t else falsity) ≡ true
+      go true e = stands g of_trace Boolean t h e
+      go false e = falsity-stands g ok of_trace
+
+  trace-goal : (body : Body) (c : TermTree) → AsksOfTrace body c → is_sorted_body g body ≡ true
+      → may_stand g of_trace Boolean c ≡ true
+  trace-goal (trace_body t) c a h = absurd a
+  trace-goal (local_body side t) c a h =
+      ap (may_stand g of_trace Boolean) a ∙ pure-goal t (sort-of g (of_side side) Boolean t h)
+  trace-goal (equiv_body known items) c a h =
+      ap (may_stand g of_trace Boolean) a ∙ falsity-stands g ok of_trace
+
+  items-sorted : (vars : List Sort) (H : List TermTree) (known : List (List Item)) (items : List Item) (r : Rewriting)
+      → IsTyped g of_trace r → is_sorted g (equiv vars H known items) ≡ true
+      → is_sorted g (equiv vars H known (map (item_rewritten r) items)) ≡ true
+  items-sorted vars H known items r ty h =
+      let p = and_split (list_all (may_stand g of_trace Boolean) H) _ h in
+      let q = and_split (list_all (list_all (is_item g)) known) (list_all (is_item g) items) p.1 in
+      and_both (list_all (may_stand g of_trace Boolean) H) _ p.0
+      (and_both (list_all (list_all (is_item g)) known) _ q.0 (items-kept g r ty items q.1))
 
 -- ---- the premises of a row
 
-module _ (g : Signature) (ok : are_functions g.funs ≡ true) where
-  -- well-sorted, over the same variables
-  abbrev Sorted : SequentTree → SequentTree → Type 0
-  Sorted s p = (vars_of p ≡ vars_of s) × (is_sorted g p ≡ true)
+module _ (at : Site) (kept : is_environment at.env ≡ true) (binders : list_all is_binder_sort (vars_of at.sequent) ≡ true) (h : is_sorted (signature_at at) at.sequent ≡ true) where
+  abbrev s : SequentTree
+  s = at.sequent
 
-  -- each premise of the row is
-  abbrev Sorts : SequentTree → Option (List SequentTree) → Type 0
-  Sorts s row = (ps : List SequentTree) → row ≡ Some ps → Each (Sorted s) ps
+  abbrev g : Signature
+  g = signature_at at
 
-  nothing : (s : SequentTree) → Sorts s None
-  nothing s ps e = absurd (cc)
+  abbrev about : Subject
+  about = subject_of (body_of at.sequent)
 
-  none_left : (s : SequentTree) (b : Bool) → Sorts s (closing_row b)
-  none_left s true ps e = let z : ps ≡ [] = cc in subst (Each (Sorted s)) (sym z) (each_none (Sorted s))
-  none_left s false ps e = absurd (cc)
+  ok : are_functions at.env.funs ≡ true
+  ok = (environment_parts at.env kept).0
 
-  one : (s p : SequentTree) → Sorted s p → Sorts s (Some (p ∷ []))
-  one s p h ps e = let z : ps ≡ p ∷ [] = cc in subst (Each (Sorted s)) (sym z) (each_single p (Sorted s) h)
+  -- over variables of binders' sorts, and well-sorted
+  abbrev IsSorted : SequentTree → Type 0
+  IsSorted p =
+      (list_all is_binder_sort (vars_of p) ≡ true)
+      × (is_sorted (with_variables (signature_at at) (signature_at at).schemas (vars_of p)) p ≡ true)
 
-  both : (s p q : SequentTree) → Sorted s p → Sorted s q → Sorts s (Some (p ∷ q ∷ []))
-  both s p q h k ps e = let z : ps ≡ p ∷ q ∷ [] = cc in subst (Each (Sorted s)) (sym z) (each_cons p (q ∷ []) (Sorted s) h (each_single q (Sorted s) k))
+  same : (p : SequentTree) → vars_of p ≡ vars_of at.sequent → is_sorted (signature_at at) p ≡ true → IsSorted p
+  same p e k = (
+    ap (list_all is_binder_sort) e ∙ binders,
+    subst (λ vs. is_sorted (with_variables g g.schemas vs) p ≡ true) (sym e) k,
+  )
 
-  vars-asking : (s : SequentTree) (t : TermTree) → vars_of (asking s t) ≡ vars_of s
-  unfolding asking
-  vars-asking (trace vars H c) t = refl
-  vars-asking (local side vars H c) t = refl
-  vars-asking (equiv vars H known items) t = refl
+  goal : (t : TermTree) → goal_of at.sequent ≡ Some t → suited (signature_at at) at.sequent t ≡ true
+  goal t e = goal-suited g s t h e
 
-  vars-assuming : (s : SequentTree) (t : TermTree) → vars_of (assuming s t) ≡ vars_of s
-  unfolding assuming
-  vars-assuming (trace vars H c) t = refl
-  vars-assuming (local side vars H c) t = refl
-  vars-assuming (equiv vars H known items) t = refl
+  asked : (t : TermTree) → suited (signature_at at) at.sequent t ≡ true → IsSorted (asking at.sequent t)
+  asked t k = same (asking s t) (vars-asking s t) (asking-sorted g s t h k)
 
-  vars-with : (s : SequentTree) (G : List TermTree) → vars_of (with_hyps G s) ≡ vars_of s
-  unfolding with_hyps
-  vars-with (trace vars H c) G = refl
-  vars-with (local side vars H c) G = refl
-  vars-with (equiv vars H known items) G = refl
+  assumed : (t : TermTree) → suited (signature_at at) at.sequent t ≡ true → IsSorted (assuming at.sequent t)
+  assumed t k = same (assuming s t) (vars-assuming s t) (assuming-sorted g s t h k)
 
-  asked : (s : SequentTree) (t : TermTree) → is_sorted g s ≡ true → suited g s t ≡ true → Sorted s (asking s t)
-  asked s t h e = (vars-asking s t, asking-sorted g s t h e)
+  introduced : (a b : TermTree) → suited (signature_at at) at.sequent a ≡ true
+      → suited (signature_at at) at.sequent b ≡ true → IsSorted (assuming (asking at.sequent b) a)
+  introduced a b i j =
+      same (assuming (asking s b) a) (vars-assuming (asking s b) a ∙ vars-asking s b)
+      (assuming-sorted g (asking s b) a (asking-sorted g s b h j) (asking-suits g s b a i))
 
-  assumed : (s : SequentTree) (t : TermTree) → is_sorted g s ≡ true → suited g s t ≡ true → Sorted s (assuming s t)
-  assumed s t h e = (vars-assuming s t, assuming-sorted g s t h e)
+  parted : (a b : TermTree) → suited (signature_at at) at.sequent a ≡ true
+      → suited (signature_at at) at.sequent b ≡ true → IsSorted (assuming (assuming at.sequent a) b)
+  parted a b i j =
+      same (assuming (assuming s a) b) (vars-assuming (assuming s a) b ∙ vars-assuming s a)
+      (assuming-sorted g (assuming s a) b (assuming-sorted g s a h i) (assuming-suits g s a b j))
 
-  introduced : (s : SequentTree) (a b : TermTree) → is_sorted g s ≡ true → suited g s a ≡ true → suited g s b ≡ true → Sorted s (assuming (asking s b) a)
-  introduced s a b h i j =
-      (vars-assuming (asking s b) a ∙ vars-asking s b, assuming-sorted g (asking s b) a (asking-sorted g s b h j) (asking-suits g s b a i))
+  -- with one more variable
+  new : (x : Sort) (p : SequentTree) → list_all is_binder_sort (vars_of at.sequent ++ x ∷ []) ≡ true
+      → vars_of p ≡ vars_of at.sequent → is_sorted (wider (signature_at at) x) p ≡ true
+      → IsSorted (with_variable x p)
+  new x p b e k =
+      let over : vars_of (with_variable x p) ≡ vars_of at.sequent ++ x ∷ [] =
+      with_variable-vars x p ∙ ap (λ vs. vs ++ x ∷ []) e in (
+        ap (list_all is_binder_sort) over ∙ b,
+        subst (λ vs. is_sorted (with_variables g g.schemas vs) (with_variable x p) ≡ true) (sym over)
+            (with_variable-sorted (wider g x) x p k),
+      )
 
-  parted : (s : SequentTree) (a b : TermTree) → is_sorted g s ≡ true → suited g s a ≡ true → suited g s b ≡ true → Sorted s (assuming (assuming s a) b)
-  parted s a b h i j =
-      (vars-assuming (assuming s a) b ∙ vars-assuming s a, assuming-sorted g (assuming s a) b (assuming-sorted g s a h i) (assuming-suits g s a b j))
+  term-suited : (sort : Sort) (a : TermArg) (t : TermTree) → row.IsTerm at sort a t
+      → may_stand (signature_at at) (subject_of (body_of at.sequent)) sort t ≡ true
+  unfolding standing.may_stand
+  term-suited sort a t e = term-stands at sort a t e
 
-  hyp-sorts : (s : SequentTree) (x y : Option TermTree) → Sorts s (hyp_row x y)
-  hyp-sorts s (Some a) (Some b) = none_left s _
-  hyp-sorts s None None = nothing s
-  hyp-sorts s None (Some b) = nothing s
-  hyp-sorts s (Some a) None = nothing s
+  used : (n : ℕ) (args : List TermArg) (side : Side) (F : TermTree) (ts : List TermTree)
+      → row.IsLocal at side → row.Offers at n (length args) F → row.AreMessages at args ts
+      → may_stand (signature_at at) (subject_of (body_of at.sequent)) Boolean (instance_on side ts F) ≡ true
+  unfolding standing.may_stand
+  used n args side F ts l o m =
+      use_stands at.env at.goal n (length args) F o.is_usable (offered-stated at n (length args) F kept o)
+      s side ts l (messages-stand at args ts m) (messages-count at args ts m)
 
-  impi-sorts : (s : SequentTree) (o : Two) → is_sorted g s ≡ true → binary_in 6 (goal_of s) ≡ o → Sorts s (impi_row s o)
-  impi-sorts s no_two h q = nothing s
-  impi-sorts s (two a b) h q =
-      let e = goal-suited g s (binary_tree 6 a b) h (binary_in_is 6 (goal_of s) a b q) in
-      one s (assuming (asking s b) a) (introduced s a b h (implication-first g s a b e) (implication-second g s a b e))
+  -- an equation of a local sequent has its messages
+  equation : (u v : TermTree) → row.AsksLocally at (equal u v)
+      → (may_stand (signature_at at) (subject_of (body_of at.sequent)) Message u ≡ true)
+      × (may_stand (signature_at at) (subject_of (body_of at.sequent)) Message v ≡ true)
+  equation u v e =
+      let k = goal (equal u v) (local_goal_is s (equal u v) e) in
+      (first-stands g about Boolean kind.equality u v k, second-stands g about Boolean kind.equality u v k)
 
-  noti-sorts : (s : SequentTree) (o : Option TermTree) → is_sorted g s ≡ true → unary_in 3 (goal_of s) ≡ o → Sorts s (noti_row s o)
-  noti-sorts s None h q = nothing s
-  noti-sorts s (Some a) h q =
-      let e = goal-suited g s (unary_tree 3 a) h (unary_in_is 3 (goal_of s) a q) in
-      one s (assuming (asking s falsity) a) (introduced s a falsity h (negated g s a e) (falsity-suited g s ok))
+  asked-equal : (t u v : TermTree) → row.AsksLocally at t
+      → may_stand (signature_at at) (subject_of (body_of at.sequent)) Message u ≡ true
+      → may_stand (signature_at at) (subject_of (body_of at.sequent)) Message v ≡ true
+      → IsSorted (asking at.sequent (equal u v))
+  asked-equal t u v e i j =
+      let q = on-a-side s t e in
+      asked (equal u v) (equal-suited g ok about q.0 u v q.1 i j)
 
-  andi-sorts : (s : SequentTree) (o : Two) → is_sorted g s ≡ true → binary_in 4 (goal_of s) ≡ o → Sorts s (andi_row s o)
-  andi-sorts s no_two h q = nothing s
-  andi-sorts s (two a b) h q =
-      let e = goal-suited g s (binary_tree 4 a b) h (binary_in_is 4 (goal_of s) a b q) in
-      both s (asking s a) (asking s b) (asked s a h (conjunct-first g s a b e)) (asked s b h (conjunct-second g s a b e))
+  asked-arguments : (t : TermTree) (f : Kind) (is : List Idx) (us vs : TermTrees) → row.AsksLocally at t
+      → may_stand (signature_at at) (subject_of (body_of at.sequent)) Message (fun f is us) ≡ true
+      → may_stand (signature_at at) (subject_of (body_of at.sequent)) Message (fun f is vs) ≡ true
+      → Each IsSorted (arguments_asked at.sequent f 0 us vs)
+  asked-arguments t f is us vs e i j =
+      let q = on-a-side s t e in
+      arguments-stand g ok q.0 s IsSorted
+      (λ F k. asked F (subst (λ z. may_stand g z Boolean F ≡ true) (sym q.1) k)) f is us vs
+      (subst (λ z. may_stand g z Message (fun f is us) ≡ true) q.1 i)
+      (subst (λ z. may_stand g z Message (fun f is vs) ≡ true) q.1 j)
 
-  orl-sorts : (s : SequentTree) (o : Two) → is_sorted g s ≡ true → binary_in 5 (goal_of s) ≡ o → Sorts s (orl_row s o)
-  orl-sorts s no_two h q = nothing s
-  orl-sorts s (two a b) h q =
-      let e = goal-suited g s (binary_tree 5 a b) h (binary_in_is 5 (goal_of s) a b q) in
-      one s (asking s a) (asked s a h (disjunct-first g s a b e))
+  rewriting : (k : ℕ) (r : Rewriting) (p : Target) (premise : SequentTree)
+      → IsTyped (signature_at at) (subject_of (body_of at.sequent)) r → Rewritten at k r p premise
+      → IsSorted premise
+  rewriting k r _ _ ty (in_goal c e) = asked (rewritten r c) (stands-rewritten g about r ty Boolean c (goal c e))
+  rewriting k r _ _ ty (in_hypothesis n f other e) =
+      let H : List TermTree = slice_set (hyps_of s) n (rewritten r f) in
+      same (with_hyps H s) (vars-with s H)
+      (with_hyps-sorted g s H h
+      (all-set (suited g s) (hyps_of s) n (rewritten r f) (hyps-sorted g s h)
+      (stands-rewritten g about r ty Boolean f (hyp-suited g s n f h e))))
+  rewriting k r _ _ ty (in_items vars H known items e) =
+      same (equiv vars H known (map (item_rewritten r) items)) (sym (ap vars_of e))
+      (items-sorted g ok vars H known items r
+      (subst (λ q. IsTyped g (subject_of (body_of q)) r) e ty) (subst (λ q. is_sorted g q ≡ true) e h))
 
-  orr-sorts : (s : SequentTree) (o : Two) → is_sorted g s ≡ true → binary_in 5 (goal_of s) ≡ o → Sorts s (orr_row s o)
-  orr-sorts s no_two h q = nothing s
-  orr-sorts s (two a b) h q =
-      let e = goal-suited g s (binary_tree 5 a b) h (binary_in_is 5 (goal_of s) a b q) in
-      one s (asking s b) (asked s b h (disjunct-second g s a b e))
-
-  ande-sorts : (s : SequentTree) (k : ℕ) (o : Two) → is_sorted g s ≡ true → binary_in 4 (hyp_of s k) ≡ o → Sorts s (ande_row s o)
-  ande-sorts s k no_two h q = nothing s
-  ande-sorts s k (two a b) h q =
-      let e = hyp-suited g s k (binary_tree 4 a b) h (binary_in_is 4 (hyp_of s k) a b q) in
-      one s (assuming (assuming s a) b) (parted s a b h (conjunct-first g s a b e) (conjunct-second g s a b e))
-
-  ore-sorts : (s : SequentTree) (k : ℕ) (o : Two) → is_sorted g s ≡ true → binary_in 5 (hyp_of s k) ≡ o → Sorts s (ore_row s o)
-  ore-sorts s k no_two h q = nothing s
-  ore-sorts s k (two a b) h q =
-      let e = hyp-suited g s k (binary_tree 5 a b) h (binary_in_is 5 (hyp_of s k) a b q) in
-      both s (assuming s a) (assuming s b) (assumed s a h (disjunct-first g s a b e)) (assumed s b h (disjunct-second g s a b e))
-
-  impe-sorts : (s : SequentTree) (k : ℕ) (o : Two) → is_sorted g s ≡ true → binary_in 6 (hyp_of s k) ≡ o → Sorts s (impe_row s o)
-  impe-sorts s k no_two h q = nothing s
-  impe-sorts s k (two a b) h q =
-      let e = hyp-suited g s k (binary_tree 6 a b) h (binary_in_is 6 (hyp_of s k) a b q) in
-      both s (asking s a) (assuming s b) (asked s a h (implication-first g s a b e)) (assumed s b h (implication-second g s a b e))
-
-  note-sorts : (s : SequentTree) (k : ℕ) (o : Option TermTree) → is_sorted g s ≡ true → unary_in 3 (hyp_of s k) ≡ o → Sorts s (note_row s o)
-  note-sorts s k None h q = nothing s
-  note-sorts s k (Some a) h q =
-      let e = hyp-suited g s k (unary_tree 3 a) h (unary_in_is 3 (hyp_of s k) a q) in
-      one s (asking s a) (asked s a h (negated g s a e))
-
-  drop-sorts : (s : SequentTree) (k : ℕ) → is_sorted g s ≡ true → Sorts s (drop_row s k)
-  drop-sorts s k h = go (nat_lt k (length (hyps_of s)))
-    where
-      go : (b : Bool) → Sorts s (cond b (Some (with_hyps (without (hyps_of s) k) s ∷ [])) None)
-      go true = one s (with_hyps (without (hyps_of s) k) s) (vars-with s (without (hyps_of s) k), without-sorted g s k h)
-      go false = nothing s
-
-  pure_goal : (t : TermTree) → is_formula g t ≡ true → is_trace_formula g (pure_or_false t) ≡ true
-  pure_goal t h = go (is_pure t) refl
-    where
-      go : (b : Bool) → is_pure t ≡ b → is_trace_formula g (cond b t falsity) ≡ true
-      go true e = and_both (is_formula g t) (is_pure t) h e
-      go false e = and_both (is_formula g falsity) true (falsity-formula g ok) refl
-
-  trace-sorts : (s : SequentTree) → is_sorted g s ≡ true → Sorts s (trace_row s)
-  trace-sorts (trace vars H c) h = nothing (trace vars H c)
-  trace-sorts (local side vars H c) h =
-      let p = and_split (list_all (is_local_formula g side) H) _ h in
-      one (local side vars H c) (trace vars (pure_ones H) (pure_or_false c))
-      (refl, and_both (list_all (is_trace_formula g) (pure_ones H)) _ (pure_ones-sorted g (local side vars H c) H p.0) (pure_goal c (suited-formula g (local side vars H c) c p.1)))
-  trace-sorts (equiv vars H known items) h =
-      let p = and_split (list_all (is_trace_formula g) H) _ h in
-      one (equiv vars H known items) (trace vars (pure_ones H) falsity)
-      (refl, and_both (list_all (is_trace_formula g) (pure_ones H)) _ (pure_ones-sorted g (equiv vars H known items) H p.0) (and_both (is_formula g falsity) true (falsity-formula g ok) refl))
-
-  refl-sorts : (s : SequentTree) → Sorts s (refl_row s)
-  refl-sorts (trace vars H c) = none_left (trace vars H c) _
-  refl-sorts (local side vars H c) = none_left (local side vars H c) _
-  refl-sorts (equiv vars H known items) = nothing (equiv vars H known items)
-
-  sym-sorts : (s : SequentTree) (o : Two) → is_sorted g s ≡ true → binary_in 7 (local_goal_of s) ≡ o → Sorts s (sym_row s o)
-  unfolding local_goal_of
-  sym-sorts s no_two h q = nothing s
-  sym-sorts (local side vars H c) (two u v) h q =
-      let y : Some c ≡ Some (binary_tree 7 u v) = binary_in_is 7 (Some c) u v q in
-      let p = and_split (list_all (is_local_formula g side) H) _ h in
-      let z : c ≡ equality u v = cc in
-      let e : suited g (local side vars H c) (equality u v) ≡ true = ap (is_local_formula g side) (sym z) ∙ p.1 in
-      one (local side vars H c) (asking (local side vars H c) (equality v u)) (asked (local side vars H c) (equality v u) h (swapped-suited g (local side vars H c) u v e))
-  sym-sorts (trace vars H c) (two u v) h q = let y : None ≡ Some (binary_tree 7 u v) = binary_in_is 7 None u v q in absurd (cc)
-  sym-sorts (equiv vars H known items) (two u v) h q = let y : None ≡ Some (binary_tree 7 u v) = binary_in_is 7 None u v q in absurd (cc)
-
-  cut-sorts : (s : SequentTree) (o : Option TermTree) → is_sorted g s ≡ true → Stands g s Boolean o → Sorts s (cut_row s o)
-  cut-sorts s None h k = nothing s
-  cut-sorts s (Some F) h k =
-      let e = stands-suited g s F (k F refl) in
-      both s (asking s F) (assuming s F) (asked s F h e) (assumed s F h e)
-
-  em-sorts : (s : SequentTree) (o : Option TermTree) → is_sorted g s ≡ true → Stands g s Boolean o → Sorts s (em_row s o)
-  em-sorts s None h k = nothing s
-  em-sorts s (Some F) h k =
-      let e = stands-suited g s F (k F refl) in
-      both s (assuming s F) (assuming s (negation F)) (assumed s F h e) (assumed s (negation F) h (negation-suited g ok s F e))
-
-  trans-sorts : (s : SequentTree) (o : Two) (w : Option TermTree) → is_sorted g s ≡ true → binary_in 7 (local_goal_of s) ≡ o → Stands g s Message w → Sorts s (trans_row s o w)
-  unfolding local_goal_of
-  trans-sorts s no_two w h q k = nothing s
-  trans-sorts s (two u v) None h q k = nothing s
-  trans-sorts (local side vars H c) (two u v) (Some w) h q k =
-      let y : Some c ≡ Some (binary_tree 7 u v) = binary_in_is 7 (Some c) u v q in
-      let p = and_split (list_all (is_local_formula g side) H) _ h in
-      let z : c ≡ equality u v = cc in
-      let e = equation-sides g side u v (ap (is_local_formula g side) (sym z) ∙ p.1) in
-      let m = k w refl in
-      both (local side vars H c) (asking (local side vars H c) (equality u w)) (asking (local side vars H c) (equality w v))
-      (asked (local side vars H c) (equality u w) h (equation-of g ok side u w e.0 m)) (asked (local side vars H c) (equality w v) h (equation-of g ok side w v m e.1))
-  trans-sorts (trace vars H c) (two u v) (Some w) h q k = let y : None ≡ Some (binary_tree 7 u v) = binary_in_is 7 None u v q in absurd (cc)
-  trans-sorts (equiv vars H known items) (two u v) (Some w) h q k = let y : None ≡ Some (binary_tree 7 u v) = binary_in_is 7 None u v q in absurd (cc)
-
-  -- the body of a quantifier at the value of an argument, if there is one
-  asked_at-sorts : (s : SequentTree) (F : TermTree) (o : Option ArgTree) → is_sorted g s ≡ true → ((v : ArgTree) → o ≡ Some v → suited g s (opened v F) ≡ true) → Sorts s (asked_at s F o)
-  asked_at-sorts s F None h k = nothing s
-  asked_at-sorts s F (Some v) h k = one s (asking s (opened v F)) (asked s (opened v F) h (k v refl))
-
-  assumed_at-sorts : (s : SequentTree) (F : TermTree) (o : Option ArgTree) → is_sorted g s ≡ true → ((v : ArgTree) → o ≡ Some v → suited g s (opened v F) ≡ true) → Sorts s (assumed_at s F o)
-  assumed_at-sorts s F None h k = nothing s
-  assumed_at-sorts s F (Some v) h k = one s (assuming s (opened v F)) (assumed s (opened v F) h (k v refl))
-
-  -- the value of an argument, where the signature is the goal's
-  valued : (env : EnvTree) (goal : ℕ) (s : SequentTree) (x : Sort) (w : ValArg) (v : ArgTree) → g ≡ signature_for env goal (vars_of s) → value_in env goal s x w ≡ Some v → is_value g x v ≡ true
-  valued env goal s x w v e q = subst (λ i. is_value i x v ≡ true) (sym (e ∙ ap (signature_for env goal) (same-vars s))) (value-stands env goal s x w v q)
-
-  exi-sorts : (env : EnvTree) (goal : ℕ) (s : SequentTree) (w : ValArg) (o : Binding) → g ≡ signature_for env goal (vars_of s) → is_sorted g s ≡ true → some_in (goal_of s) ≡ o
-      → Sorts s (exi_row env goal s w o)
-  exi-sorts env goal s w no_binding e h q = nothing s
-  exi-sorts env goal s w (binding x F) e h q =
-      asked_at-sorts s F (value_in env goal s x w) h
-      (λ v r. some-suited g x v F (valued env goal s x w v e r) s (goal-suited g s (some x F) h (some_in_is (goal_of s) x F q)))
-
-  alle-sorts : (env : EnvTree) (goal : ℕ) (s : SequentTree) (k : ℕ) (w : ValArg) (o : Binding) → g ≡ signature_for env goal (vars_of s) → is_sorted g s ≡ true → all_in (hyp_of s k) ≡ o
-      → Sorts s (alle_row env goal s w o)
-  alle-sorts env goal s k w no_binding e h q = nothing s
-  alle-sorts env goal s k w (binding x F) e h q =
-      assumed_at-sorts s F (value_in env goal s x w) h
-      (λ v r. all-suited g x v F (valued env goal s x w v e r) s (hyp-suited g s k (all x F) h (all_in_is (hyp_of s k) x F q)))
-
-  arg-sorts : (s : SequentTree) (o : Two) → is_sorted g s ≡ true → binary_in 7 (local_goal_of s) ≡ o → Sorts s (arg_row s o)
-  unfolding local_goal_of
-  arg-sorts s no_two h q = nothing s
-  arg-sorts (local side vars H c) (two t u) h q = λ ps r.
-      let y : Some c ≡ Some (binary_tree 7 t u) = binary_in_is 7 (Some c) t u q in
-      let z : c ≡ equality t u = cc in
-      let p = and_split (list_all (is_local_formula g side) H) _ h in
-      let e = equation-sides g side t u (ap (is_local_formula g side) (sym z) ∙ p.1) in
-      let k : AsksArguments (local side vars H c) t u ps = applications-are (local side vars H c) t u ps r in
-      subst (Each (Sorted (local side vars H c))) (sym k.asked)
-      (arguments-suited g ok (local side vars H c) side (Sorted (local side vars H c)) (λ F i. asked (local side vars H c) F h i) k.function k.indices t u k.first k.second k.left_is k.right_is e.0 e.1)
-  arg-sorts (trace vars H c) (two u v) h q = let y : None ≡ Some (binary_tree 7 u v) = binary_in_is 7 None u v q in absurd (cc)
-  arg-sorts (equiv vars H known items) (two u v) h q = let y : None ≡ Some (binary_tree 7 u v) = binary_in_is 7 None u v q in absurd (cc)
-
-  proj-sorts : (s : SequentTree) → is_sorted g s ≡ true → Sorts s (proj_row s)
-  proj-sorts (local Both vars H c) h =
-      let p = and_split (list_all (is_local_formula g Both) H) _ h in
-      both (local Both vars H c) (on_side Left vars H c) (on_side Right vars H c)
-      (refl, and_both (list_all (is_local_formula g Left) (map (projected Left) H)) _ (side-formulas g Left H p.0) (side-formula g Left c p.1))
-      (refl, and_both (list_all (is_local_formula g Right) (map (projected Right) H)) _ (side-formulas g Right H p.0) (side-formula g Right c p.1))
-  proj-sorts (local Left vars H c) h = nothing (local Left vars H c)
-  proj-sorts (local Right vars H c) h = nothing (local Right vars H c)
-  proj-sorts (trace vars H c) h = nothing (trace vars H c)
-  proj-sorts (equiv vars H known items) h = nothing (equiv vars H known items)
-
-  fact-sorts : (env : EnvTree) (goal : ℕ) (s : SequentTree) (a : TermArg) → g ≡ signature_for env goal (vars_of s) → is_sorted g s ≡ true → Sorts s (fact_row env goal s a)
-  fact-sorts env goal (trace vars H c) a e h = nothing (trace vars H c)
-  fact-sorts env goal (equiv vars H known items) a e h = nothing (equiv vars H known items)
-  fact-sorts env goal (local side vars H c) a e h = go (standing_fact env goal (local side vars H c) (term_at (local side vars H c) a)) refl
-    where
-      go : (o : Option TermTree) → standing_fact env goal (local side vars H c) (term_at (local side vars H c) a) ≡ o → Sorts (local side vars H c) (assumed_fact (local side vars H c) o)
-      go None q = nothing (local side vars H c)
-      go (Some F) q =
-          let funs : are_functions env.funs ≡ true = subst (λ (i : Signature). are_functions i.funs ≡ true) e ok in
-          let k = fact-stands env goal side vars H c F funs (stood env goal (local side vars H c) (term_at (local side vars H c) a) F q) in
-          one (local side vars H c) (assuming (local side vars H c) F) (assumed (local side vars H c) F h (subst (λ i. is_local_formula i side F ≡ true) (sym e) k))
-
-  -- the term of an argument, where the signature is the goal's
-  written : (env : EnvTree) (goal : ℕ) (s : SequentTree) (sort : Sort) (a : TermArg) → g ≡ signature_for env goal (vars_of s) → Stands g s sort (term_in env goal s sort a)
-  unfolding term_in
-  written env goal s sort a e =
-      subst (λ i. Stands i s sort (where_standing env goal s sort (term_at s a))) (sym (e ∙ ap (signature_for env goal) (same-vars s))) (written-stands env goal s sort (term_at s a))
-
-  use-sorts : (env : EnvTree) (goal : ℕ) (s : SequentTree) (k : ℕ) (ws : List TermArg) → list_all (is_statement env) env.stmts ≡ true → g ≡ signature_for env goal (vars_of s) → is_sorted g s ≡ true
-      → Sorts s (use_row env goal s k ws)
-  unfolding use_row
-  use-sorts env goal (trace vars H c) k ws fine e h = nothing (trace vars H c)
-  use-sorts env goal (equiv vars H known items) k ws fine e h = nothing (equiv vars H known items)
-  use-sorts env goal (local side vars H c) k ws fine e h = go (offered env goal k (length ws)) refl (messages_in env goal (local side vars H c) ws) refl
-    where
-      go : (o : Option TermTree) → offered env goal k (length ws) ≡ o → (q : Option (List TermTree)) → messages_in env goal (local side vars H c) ws ≡ q
-          → Sorts (local side vars H c) (used_with (local side vars H c) side o q)
-      go None i q r = nothing (local side vars H c)
-      go (Some F) i None r = nothing (local side vars H c)
-      go (Some F) i (Some ms) r =
-          let stand = messages-stand env goal (local side vars H c) ws ms r in
-          let there : is_local_formula (signature_for env goal vars) side (instance_on side ms F) ≡ true =
-          use_stands env goal k (length ws) F (offered-is env fine goal k (length ws) F i) side vars H c ms stand.0 stand.1 in
-          one (local side vars H c) (assuming (local side vars H c) (instance_on side ms F))
-          (assumed (local side vars H c) (instance_on side ms F) h (subst (λ x. is_local_formula x side (instance_on side ms F) ≡ true) (sym e) there))
-
-  pub row-sorts : (x : Step) (s : SequentTree) (env : EnvTree) (goal : ℕ) → g ≡ signature_for env goal (vars_of s) → is_sorted g s ≡ true → Sorts s (of_no_statement x (of_same_variables x (logic_row x s env goal)))
-  unfolding logic_row
-  row-sorts (step.Hyp k) s env goal e h = hyp-sorts s (goal_of s) (hyp_of s k)
-  row-sorts step.True s env goal e h = none_left s _
-  row-sorts (step.Absurd k) s env goal e h = none_left s _
-  row-sorts step.Impi s env goal e h = impi-sorts s (binary_in 6 (goal_of s)) h refl
-  row-sorts step.Noti s env goal e h = noti-sorts s (unary_in 3 (goal_of s)) h refl
-  row-sorts step.Andi s env goal e h = andi-sorts s (binary_in 4 (goal_of s)) h refl
-  row-sorts step.Orl s env goal e h = orl-sorts s (binary_in 5 (goal_of s)) h refl
-  row-sorts step.Orr s env goal e h = orr-sorts s (binary_in 5 (goal_of s)) h refl
-  row-sorts (step.Exi w) s env goal e h = exi-sorts env goal s w (some_in (goal_of s)) e h refl
-  row-sorts (step.Ande k) s env goal e h = ande-sorts s k (binary_in 4 (hyp_of s k)) h refl
-  row-sorts (step.Ore k) s env goal e h = ore-sorts s k (binary_in 5 (hyp_of s k)) h refl
-  row-sorts (step.Impe k) s env goal e h = impe-sorts s k (binary_in 6 (hyp_of s k)) h refl
-  row-sorts (step.Note k) s env goal e h = note-sorts s k (unary_in 3 (hyp_of s k)) h refl
-  row-sorts (step.Alle k w) s env goal e h = alle-sorts env goal s k w (all_in (hyp_of s k)) e h refl
-  row-sorts (step.Cut F) s env goal e h = cut-sorts s (term_in env goal s Boolean F) h (written env goal s Boolean F e)
-  row-sorts (step.Em F) s env goal e h = em-sorts s (term_in env goal s Boolean F) h (written env goal s Boolean F e)
-  row-sorts (step.Drop k) s env goal e h = drop-sorts s k h
-  row-sorts step.Proj s env goal e h = proj-sorts s h
-  row-sorts step.Trace s env goal e h = trace-sorts s h
-  row-sorts step.Refl s env goal e h = refl-sorts s
-  row-sorts step.Sym s env goal e h = sym-sorts s (binary_in 7 (local_goal_of s)) h refl
-  row-sorts (step.Trans w) s env goal e h = trans-sorts s (binary_in 7 (local_goal_of s)) (term_in env goal s Message w) h refl (written env goal s Message w e)
-  row-sorts step.Arg s env goal e h = arg-sorts s (binary_in 7 (local_goal_of s)) h refl
-  row-sorts (step.Fact t) s env goal e h = fact-sorts env goal s t e h
-  row-sorts (step.Rew k d p) s env goal e h = rew_sorts g s k d p (hyp_of s k) h refl
-  row-sorts _ s env goal e h = nothing s
+  pub row-sorted : (x : Step) (ps : List SequentTree) → Row at x ps → Each IsSorted ps
+  row-sorted _ _ (row.hyp k t e f) = each_none IsSorted
+  row-sorted _ _ (row.true_goal e) = each_none IsSorted
+  row-sorted _ _ (row.absurd_hyp k e) = each_none IsSorted
+  row-sorted _ _ (row.impi a b e) =
+      let k = goal (implies a b) e in
+      each_single (assuming (asking s b) a) IsSorted
+      (introduced a b (first-stands g about Boolean kind.implication a b k)
+      (second-stands g about Boolean kind.implication a b k))
+  row-sorted _ _ (row.noti a e) =
+      each_single (assuming (asking s falsity) a) IsSorted
+      (introduced a falsity (only-stands g about Boolean kind.negation a (goal (negation a) e))
+      (falsity-stands g ok about))
+  row-sorted _ _ (row.alli x F e) =
+      let k = goal (all x F) e in
+      let F' : TermTree = opened (new_variable x s) F in
+      each_single (with_variable x (asking s F')) IsSorted
+      (new x (asking s F') (binders-all g x about F k binders) (vars-asking s F')
+      (asking-sorted (wider g x) s F' (sequent-widened g x s h) (all-new g x about F k)))
+  row-sorted _ _ (row.andi a b e) =
+      let k = goal (both a b) e in
+      each_cons (asking s a) (asking s b ∷ []) IsSorted
+      (asked a (first-stands g about Boolean kind.conjunction a b k))
+      (each_single (asking s b) IsSorted (asked b (second-stands g about Boolean kind.conjunction a b k)))
+  row-sorted _ _ (row.orl a b e) =
+      each_single (asking s a) IsSorted
+      (asked a (first-stands g about Boolean kind.disjunction a b (goal (either a b) e)))
+  row-sorted _ _ (row.orr a b e) =
+      each_single (asking s b) IsSorted
+      (asked b (second-stands g about Boolean kind.disjunction a b (goal (either a b) e)))
+  row-sorted _ _ (row.exi arg x F w e v) =
+      each_single (asking s (opened w F)) IsSorted
+      (asked (opened w F) (some-value g x w (value-sort at x arg w v) about F (goal (some x F) e)))
+  row-sorted _ _ (row.ande n a b e) =
+      let k = hyp-suited g s n (both a b) h e in
+      each_single (assuming (assuming s a) b) IsSorted
+      (parted a b (first-stands g about Boolean kind.conjunction a b k)
+      (second-stands g about Boolean kind.conjunction a b k))
+  row-sorted _ _ (row.ore n a b e) =
+      let k = hyp-suited g s n (either a b) h e in
+      each_cons (assuming s a) (assuming s b ∷ []) IsSorted
+      (assumed a (first-stands g about Boolean kind.disjunction a b k))
+      (each_single (assuming s b) IsSorted (assumed b (second-stands g about Boolean kind.disjunction a b k)))
+  row-sorted _ _ (row.impe n a b e) =
+      let k = hyp-suited g s n (implies a b) h e in
+      each_cons (asking s a) (assuming s b ∷ []) IsSorted
+      (asked a (first-stands g about Boolean kind.implication a b k))
+      (each_single (assuming s b) IsSorted (assumed b (second-stands g about Boolean kind.implication a b k)))
+  row-sorted _ _ (row.note n a e) =
+      each_single (asking s a) IsSorted
+      (asked a (only-stands g about Boolean kind.negation a (hyp-suited g s n (negation a) h e)))
+  row-sorted _ _ (row.alle n arg x F w e v) =
+      each_single (assuming s (opened w F)) IsSorted
+      (assumed (opened w F) (all-value g x w (value-sort at x arg w v) about F (hyp-suited g s n (all x F) h e)))
+  row-sorted _ _ (row.exe n x F e) =
+      let k = hyp-suited g s n (some x F) h e in
+      let F' : TermTree = opened (new_variable x s) F in
+      each_single (with_variable x (assuming s F')) IsSorted
+      (new x (assuming s F') (binders-some g x about F k binders) (vars-assuming s F')
+      (assuming-sorted (wider g x) s F' (sequent-widened g x s h) (some-new g x about F k)))
+  row-sorted _ _ (row.cut arg F e) =
+      let k = term-suited Boolean arg F e in
+      each_cons (asking s F) (assuming s F ∷ []) IsSorted (asked F k)
+      (each_single (assuming s F) IsSorted (assumed F k))
+  row-sorted _ _ (row.em arg F e) =
+      let k = term-suited Boolean arg F e in
+      each_cons (assuming s F) (assuming s (negation F) ∷ []) IsSorted (assumed F k)
+      (each_single (assuming s (negation F)) IsSorted (assumed (negation F) (negation-stands g ok about F k)))
+  row-sorted _ _ (row.drop n l) =
+      let H : List TermTree = without (hyps_of s) n in
+      each_single (with_hyps H s) IsSorted (same (with_hyps H s) (vars-with s H) (without-sorted g s n h))
+  row-sorted _ _ (row.use_statement n args side F ts l o m) =
+      each_single (assuming s (instance_on side ts F)) IsSorted
+      (assumed (instance_on side ts F) (used n args side F ts l o m))
+  row-sorted _ _ (row.proj l) =
+      each_cons (on_side Left s) (on_side Right s ∷ []) IsSorted
+      (same (on_side Left s) (vars-side s Left) (proj-sorted g ok s Left l h))
+      (each_single (on_side Right s) IsSorted
+      (same (on_side Right s) (vars-side s Right) (proj-sorted g ok s Right l h)))
+  row-sorted _ _ (row.of_trace c a) =
+      let q : SequentTree = trace (vars_of s) (pure_ones (hyps_of s)) c in
+      each_single q IsSorted
+      (same q refl
+      (and_both (list_all (may_stand g of_trace Boolean) (pure_ones (hyps_of s))) _
+      (pure_ones-sorted g s (hyps_of s) (hyps-sorted g s h))
+      (trace-goal g ok (body_of s) c a (body-sorted g s h))))
+  row-sorted _ _ (row.itself e) = each_none IsSorted
+  row-sorted _ _ (row.sym u v e) =
+      let k = equation u v e in
+      each_single (asking s (equal v u)) IsSorted (asked-equal (equal u v) v u e k.1 k.0)
+  row-sorted _ _ (row.trans arg u w v e t) =
+      let k = equation u v e in
+      let m = term-suited Message arg w t in
+      each_cons (asking s (equal u w)) (asking s (equal w v) ∷ []) IsSorted
+      (asked-equal (equal u v) u w e k.0 m)
+      (each_single (asking s (equal w v)) IsSorted (asked-equal (equal u v) w v e m k.1))
+  row-sorted _ _ (row.arg f is us vs n e) =
+      let k = equation (fun f is us) (fun f is vs) e in
+      asked-arguments (equal (fun f is us) (fun f is vs)) f is us vs e k.0 k.1
+  row-sorted _ _ (row.rew n d p f r premise e q w) =
+      each_single premise IsSorted
+      (rewriting n (turned d r) p premise
+      (turned-typed g about d r (typed g at f r q (hyp-suited g s n f h e))) w)
+  row-sorted _ _ (row.fact arg side x t F l m q) =
+      let on = subject-on (body_of s) side l in
+      each_single (assuming s F) IsSorted
+      (assumed F
+      (subst (λ z. may_stand g z Boolean F ≡ true) (sym on)
+      (fact-stands g side x t F ok q
+      (subst (λ z. may_stand g z x t ≡ true) on (term-suited x arg t m)))))
 
 -- ---- well-formed for a goal
 
 fit-at : (ps : List SequentTree) → all_fit ps ≡ true → Each (λ p. fits p ≡ true) ps
 fit-at [] h = each_none (λ p. fits p ≡ true)
-fit-at (q ∷ qs) h = let k = and_split (fits q) (all_fit qs) h in each_cons q qs (λ p. fits p ≡ true) k.0 (fit-at qs k.1)
+fit-at (q ∷ qs) h =
+    let k = and_split (fits q) (all_fit qs) h in
+    each_cons q qs (λ p. fits p ≡ true) k.0 (fit-at qs k.1)
 
--- with the goal's system and its count of schema variables
-module _ (e : EnvTree) (actions : List ActionTree) (n : ℕ) (ok : are_functions e.funs ≡ true) where
-  abbrev over_vars_of : SequentTree → Signature
-  over_vars_of s = signature_of e actions n (vars_of s)
+-- the signature of the goal's system and statement
+pub signature-is : (at : Site) (st : StmtTree) (system : SystemTree) (vars : List Sort)
+    → slice_get at.env.stmts at.goal ≡ Some st → slice_get at.env.systems st.system ≡ Some system
+    → signature_of at.env system (length st.schemas) vars
+    ≡ signature_of at.env (system_of at.env at.goal) (length (statement_at at.env at.goal).schemas) vars
+signature-is at st system vars e h =
+    let p : statement_at at.env at.goal ≡ st =
+    get_or_from_slice_get at.env.stmts at.goal st no_statement e in
+    let q : get_or at.env.systems st.system no_actions ≡ system =
+    get_or_from_slice_get at.env.systems st.system system no_actions h in
+    ap (λ x. signature_of at.env x (length st.schemas) vars) (sym q)
+    ∙ ap (λ (r : StmtTree). signature_of at.env (get_or at.env.systems r.system no_actions) (length r.schemas) vars) (sym p)
 
-  same_variables : (s p : SequentTree) → list_all is_binder_sort (vars_of s) ≡ true → (vars_of p ≡ vars_of s) × (is_sorted (over_vars_of s) p ≡ true) → IsSorted (over_vars_of s) p
-  same_variables s p b (q, r) = (ap (list_all is_binder_sort) q ∙ b, ap (λ vs. is_sorted (signature_of e actions n vs) p) q ∙ r)
+module _ (at : Site) (kept : is_environment at.env ≡ true) (x : Step) (ps : List SequentTree) (r : Row at x ps) (fit : all_fit ps ≡ true) where
+  of-system : (st : StmtTree) (o : Option SystemTree) → slice_get at.env.stmts at.goal ≡ Some st
+      → slice_get at.env.systems st.system ≡ o
+      → is_sequent_of at.env o (length st.schemas) at.sequent ≡ true
+      → Each (λ p. is_sequent_of at.env o (length st.schemas) p ≡ true) ps
+  of-system st None e q h = absurd (cc)
+  of-system st (Some system) e q h =
+      let n : ℕ = length st.schemas in
+      let v = and_split (list_all is_binder_sort (vars_of at.sequent)) _ h in
+      let w = and_split (is_sorted (signature_of at.env system n (vars_of at.sequent)) at.sequent) (fits at.sequent) v.1 in
+      let sorted : is_sorted (signature_at at) at.sequent ≡ true =
+      subst (λ g. is_sorted g at.sequent ≡ true) (signature-is at st system (vars_of at.sequent) e q) w.0 in
+      let each = row-sorted at kept v.0 sorted x ps r in
+      λ p i.
+      let k = each p i in
+      and_both (list_all is_binder_sort (vars_of p)) _ k.0
+      (and_both (is_sorted (signature_of at.env system n (vars_of p)) p) (fits p)
+      (subst (λ g. is_sorted g p ≡ true) (sym (signature-is at st system (vars_of p) e q)) k.1)
+      (fit-at ps fit p i))
 
-  -- each premise of any row is well-sorted
-  any-row-sorts : (x : Step) (s : SequentTree) (env : EnvTree) (goal : ℕ) → list_all (is_statement env) env.stmts ≡ true → over_vars_of s ≡ signature_for env goal (vars_of s)
-      → list_all is_binder_sort (vars_of s) ≡ true → is_sorted (over_vars_of s) s ≡ true
-      → (ps : List SequentTree) → logic_row x s env goal ≡ Some ps → Each (IsSorted (over_vars_of s)) ps
-  unfolding logic_row
-  any-row-sorts step.Alli s env goal fine same b h ps r = alli-sorts (over_vars_of s) s (all_in (goal_of s)) refl b h refl ps r
-  any-row-sorts (step.Exe k) s env goal fine same b h ps r = exe-sorts (over_vars_of s) s k (some_in (hyp_of s k)) refl b h refl ps r
-  any-row-sorts (step.UseStmt k ws) s env goal fine same b h ps r = λ p i. same_variables s p b (use-sorts (over_vars_of s) ok env goal s k ws fine same h ps r p i)
-  any-row-sorts x s env goal fine same b h ps r = λ p i. same_variables s p b (row-sorts (over_vars_of s) ok x s env goal same h ps r p i)
+  of-statement : (o : Option StmtTree) → slice_get at.env.stmts at.goal ≡ o
+      → is_well_formed_for at.env o at.sequent ≡ true
+      → Each (λ p. is_well_formed_for at.env o p ≡ true) ps
+  of-statement None e h = absurd (cc)
+  of-statement (Some st) e h = of-system st (slice_get at.env.systems st.system) e refl h
 
-  judged_premise : (s p : SequentTree) → IsSorted (over_vars_of s) p → fits p ≡ true → is_sequent_of e (Some actions) n p ≡ true
-  judged_premise s p (b, r) fit = and_both (list_all is_binder_sort (vars_of p)) _ b (and_both (is_sorted (over_vars_of p) p) (fits p) r fit)
-
-premise-of : (e : EnvTree) (actions : Option (List ActionTree)) (n : ℕ) (x : Step) (s : SequentTree) (env : EnvTree) (goal : ℕ) (ps : List SequentTree)
-    → ((xs : List ActionTree) → actions ≡ Some xs → signature_of e xs n (vars_of s) ≡ signature_for env goal (vars_of s))
-    → are_functions e.funs ≡ true → list_all (is_statement env) env.stmts ≡ true → is_sequent_of e actions n s ≡ true → logic_row x s env goal ≡ Some ps → all_fit ps ≡ true
-    → Each (λ p. is_sequent_of e actions n p ≡ true) ps
-premise-of e None n x s env goal ps same ok fine h r f = absurd (cc)
-premise-of e (Some actions) n x s env goal ps same ok fine h r f =
-    let v = and_split (list_all is_binder_sort (vars_of s)) _ h in
-    let w = and_split (is_sorted (signature_of e actions n (vars_of s)) s) (fits s) v.1 in
-    λ p i. judged_premise e actions n ok s p (any-row-sorts e actions n ok x s env goal fine (same actions refl) v.0 w.0 ps r p i) (fit-at ps f p i)
-
-pub premise_for : (env : EnvTree) (goal : ℕ) (g : Option StmtTree) (x : Step) (s : SequentTree) (ps : List SequentTree)
-    → slice_get env.stmts goal ≡ g → is_environment env ≡ true → is_well_formed_for env g s ≡ true → logic_row x s env goal ≡ Some ps → all_fit ps ≡ true
-    → Each (λ p. is_well_formed_for env g p ≡ true) ps
-premise_for env goal None x s ps at ok h r f = absurd (cc)
-premise_for env goal (Some st) x s ps at ok h r f =
-    premise-of env (slice_get env.systems st.system) (length st.schemas) x s env goal ps (λ xs e. signature-at env goal st xs (vars_of s) at e)
-    (environment_parts env ok).0 (environment_parts env ok).2 h r f
-
--- each premise of a well-formed sequent is well-formed
-pub premises_well_formed : (x : Step) (s : SequentTree) (env : EnvTree) (goal : ℕ) (ps : List SequentTree)
-    → is_environment env ≡ true → logic_premises x s env goal ≡ Ok ps → is_well_formed env goal s ≡ true → Each (λ p. is_well_formed env goal p ≡ true) ps
-unfolding within_limits logic_premises
-premises_well_formed x s env goal ps ok e h = go (logic_row x s env goal) refl e
-  where
-    go : (o : Option (List SequentTree)) → logic_row x s env goal ≡ o → judged o ≡ Ok ps → Each (λ p. is_well_formed env goal p ≡ true) ps
-    go None f k = absurd (cc)
-    go (Some qs) f k = within (all_fit qs) refl k
-      where
-        within : (b : Bool) → all_fit qs ≡ b → cond b (Ok qs) (Err TooLarge) ≡ Ok ps → Each (λ p. is_well_formed env goal p ≡ true) ps
-        within true i j =
-            let same : qs ≡ ps = cc in
-            premise_for env goal (slice_get env.stmts goal) x s ps refl ok h (f ∙ ap Some same) (ap all_fit (sym same) ∙ i)
-        within false i j = absurd (cc)
+pub preserved : (at : Site) (x : Step) → is_environment at.env ≡ true → PreservedByRows at x
+preserved at x kept ps h r fit = of-statement at kept x ps r fit (slice_get at.env.stmts at.goal) refl h

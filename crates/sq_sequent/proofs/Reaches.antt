@@ -6,12 +6,16 @@ use Rattle.sq_base.specs.declared.sort.Sort.TheVariants.{Message, Boolean, Index
 use Rattle.sq_term.specs.declared.term.Idx.{Idx}
 use Rattle.sq_term.specs.declared.term.Idx.TheVariants.{Free, Bound}
 use Rattle.sq_term.specs.Lists.{Each}
+use Rattle.sq_term.specs.Macros.{macro_indices}
+use Rattle.sq_term.specs.Measure.{count_terms}
+use Rattle.sq_term.specs.Pure.{is_binder_sort}
+use Rattle.sq_term.specs.Symbols.{Kind, function_number}
 use Rattle.sq_term.specs.Syntax.{TsTree, free, bound, init, pred, action, TermTree, name, fun, macro, schema, diff, le, ts_eq, idx_eq, happens, all, some, find, TermTrees, nil, cons}
 use Rattle.sq_term.specs.TreeEquality.{is_same_sort}
 use Rattle.sq_term.specs.Within.{IdxWithin, TsWithin, IsWithin, AreWithin}
 use Rattle.sq_term.proofs.Members.{each_none, each_cons}
 use Rattle.sq_term.proofs.BoolTests.{and_split}
-use Rattle.sq_system.specs.Typing.{Signature, has_sort_at, has_count_at, is_index, are_indices, is_timestamp, applies, result_sort, macro_sort, is_binder_sort, count_terms, argument_sort, has_sort, have_sorts}
+use Rattle.sq_typing.specs.Typing.{Signature, has_sort_at, has_count_at, is_index, are_indices, is_timestamp, applies, result_sort, macro_sort, argument_sort, has_sort, have_sorts}
 
 place_within : (vs : List Sort) (k : ℕ) (s : Sort) → has_sort_at vs k s ≡ true → k < length vs
 place_within [] k s h = let z : false ≡ true = h in absurd (cc)
@@ -40,11 +44,14 @@ module _ (g : Signature) where
     sorted_within bs s (name n is) h =
         indices_within bs is (and_split (has_count_at g.names n (length is)) (are_indices g bs is) (and_split (is_same_sort Message s) _ h).1).1
     sorted_within bs s (fun f is ts) h =
-        let p = and_split (is_same_sort (result_sort g (slice_get g.funs f)) s) _ h in
-        let q = and_split (applies g (slice_get g.funs f) (length is) (count_terms ts)) _ p.1 in
+        let p = and_split (is_same_sort (result_sort (slice_get g.funs (function_number f))) s) _ h in
+        let q = and_split (applies (slice_get g.funs (function_number f)) (length is) (count_terms ts)) _ p.1 in
         let r = and_split (are_indices g bs is) (have_sorts g bs f 0 ts) q.1 in
         (indices_within bs is r.0, all_within bs f 0 ts r.1)
-    sorted_within bs s (macro m t) h = time_within bs t (and_split (is_same_sort (macro_sort m) s) (is_timestamp g bs t) h).1
+    sorted_within bs s (macro m t) h =
+        let p = and_split (are_indices g bs (macro_indices m)) (is_timestamp g bs t)
+        (and_split (is_same_sort (macro_sort m) s) _ h).1 in
+        (indices_within bs (macro_indices m) p.0, time_within bs t p.1)
     sorted_within bs s (schema k) h = tt
     sorted_within bs s (diff a b) h = let p = and_split (has_sort g bs s a) (has_sort g bs s b) h in (sorted_within bs s a p.0, sorted_within bs s b p.1)
     sorted_within bs s (le t u) h =
@@ -63,7 +70,7 @@ module _ (g : Signature) where
         let q = and_split (has_sort g (replicate c Index ++ bs) Message a) (has_sort g bs Message b) p.1 in
         (sorted_within (replicate c Index ++ bs) Boolean t p.0, sorted_within (replicate c Index ++ bs) Message a q.0, sorted_within bs Message b q.1)
 
-    all_within : (bs : List Sort) (f k : ℕ) (ts : TermTrees) → have_sorts g bs f k ts ≡ true → AreWithin (length g.vars) ts
+    all_within : (bs : List Sort) (f : Kind) (k : ℕ) (ts : TermTrees) → have_sorts g bs f k ts ≡ true → AreWithin (length g.vars) ts
     all_within bs f k nil h = tt
     all_within bs f k (cons t ts) h =
         let p = and_split (has_sort g bs (argument_sort f k) t) (have_sorts g bs f (suc k) ts) h in (sorted_within bs (argument_sort f k) t p.0, all_within bs f (suc k) ts p.1)

@@ -13,11 +13,12 @@ use Rattle.sq_term.specs.View.{term_tree}
 use Rattle.sq_term.proofs.BoolTests.{and_split, and_both}
 use Rattle.sq_subst.specs.Room as room
 use Rattle.sq_system.specs.declared.sequent.Both.{Both}
-use Rattle.sq_system.specs.Sequents.{Item, item, item_of, SequentTree, trace, local, equiv}
-use Rattle.sq_system.specs.Sizes.{all_size, all_depth, items_size, items_depth, known_size, known_depth, fits}
+use Rattle.sq_system.specs.Sequents.{Item, item, item_of, SequentTree, sequent, equiv, hyps_of}
+use Rattle.sq_system.specs.Limits.{most_nodes, most_depth}
+use Rattle.sq_system.specs.Sizes.{all_size, all_depth, items_size, items_depth, known_size, known_depth, body_size, body_depth, fits}
 use Rattle.sq_sequent.specs.declared.fault.RuleFault.{RuleFault}
 use Rattle.sq_sequent.specs.declared.fault.RuleFault.TheVariants.{TooLarge, NoMemory}
-use Rattle.sq_sequent.specs.Views.{hyps_of, hyp_of}
+use Rattle.sq_sequent.specs.Views.{hyp_of}
 use Rattle.sq_sequent.specs.Premises.{with_hyps}
 use Rattle.sq_sequent.specs.Rewriting.{Rewriting, rewritten, item_rewritten, item_fits, items_fit}
 use Rattle.sq_sequent.specs.Sides.{IsPastLimits}
@@ -27,7 +28,7 @@ use Rattle.sq_sequent.proofs.Held.{larger, refused, unfit_premise}
 -- ---- an item
 
 pub held-is : (t c : TermTree) → held t ≡ Ok c → c ≡ t
-held-is t c = go (room.fits 8388608 t)
+held-is t c = go (room.fits most_nodes t)
   where
     go : (b : Bool) → cond b (Ok t) (Err TooLarge) ≡ Ok c → c ≡ t
     go true e = cc
@@ -40,12 +41,12 @@ second_fails false b e = refl
 pub left-past : (e : RuleFault) (r : Rewriting) (a b : TermTree) → (e ≢ NoMemory → held (rewritten r a) ≡ Err e) → IsPastLimits e (item_fits r (item a b))
 left-past e r a b h n =
     let p = refused (rewritten r a) e (h n) in
-    (p.1, ap (λ x. x && room.fits 8388608 (rewritten r b)) p.0)
+    (p.1, ap (λ x. x && room.fits most_nodes (rewritten r b)) p.0)
 
 pub right-past : (e : RuleFault) (r : Rewriting) (a b : TermTree) → (e ≢ NoMemory → held (rewritten r b) ≡ Err e) → IsPastLimits e (item_fits r (item a b))
 right-past e r a b h n =
     let p = refused (rewritten r b) e (h n) in
-    (p.1, second_fails (room.fits 8388608 (rewritten r a)) (room.fits 8388608 (rewritten r b)) p.0)
+    (p.1, second_fails (room.fits most_nodes (rewritten r a)) (room.fits most_nodes (rewritten r b)) p.0)
 
 pub ruleset item_rules = (held-is, left-past, right-past)
 
@@ -91,26 +92,26 @@ least a b n h =
     let q : b ≤ max a b = le-max_right a b in
     (omega arith, omega arith)
 
-one_fits : (t : TermTree) → size t ≤ 8388608 → depth t ≤ 1024 → room.fits 8388608 t ≡ true
-one_fits t h k = and_both (nat_le (size t) 8388608) (nat_le (depth t) 1024) (le-leb (size t) 8388608 h) (le-leb (depth t) 1024 k)
+one_fits : (t : TermTree) → size t ≤ most_nodes → depth t ≤ most_depth → room.fits most_nodes t ≡ true
+one_fits t h k = and_both (nat_le (size t) most_nodes) (nat_le (depth t) most_depth) (le-leb (size t) most_nodes h) (le-leb (depth t) most_depth k)
 
-each_fits : (r : Rewriting) (items : List Item) → items_size (map (item_rewritten r) items) ≤ 8388608 → items_depth (map (item_rewritten r) items) ≤ 1024 → items_fit r items ≡ true
+each_fits : (r : Rewriting) (items : List Item) → items_size (map (item_rewritten r) items) ≤ most_nodes → items_depth (map (item_rewritten r) items) ≤ most_depth → items_fit r items ≡ true
 each_fits r [] h k = refl
 each_fits r (item a b ∷ items) h k =
-    let p = small (size (rewritten r a) + size (rewritten r b)) (items_size (map (item_rewritten r) items)) 8388608 h in
-    let q = least (max (depth (rewritten r a)) (depth (rewritten r b))) (items_depth (map (item_rewritten r) items)) 1024 k in
-    let x = small (size (rewritten r a)) (size (rewritten r b)) 8388608 p.0 in
-    let y = least (depth (rewritten r a)) (depth (rewritten r b)) 1024 q.0 in
+    let p = small (size (rewritten r a) + size (rewritten r b)) (items_size (map (item_rewritten r) items)) most_nodes h in
+    let q = least (max (depth (rewritten r a)) (depth (rewritten r b))) (items_depth (map (item_rewritten r) items)) most_depth k in
+    let x = small (size (rewritten r a)) (size (rewritten r b)) most_nodes p.0 in
+    let y = least (depth (rewritten r a)) (depth (rewritten r b)) most_depth q.0 in
     and_both (item_fits r (item a b)) (items_fit r items)
-    (and_both (room.fits 8388608 (rewritten r a)) (room.fits 8388608 (rewritten r b)) (one_fits (rewritten r a) x.0 y.0) (one_fits (rewritten r b) x.1 y.1))
+    (and_both (room.fits most_nodes (rewritten r a)) (room.fits most_nodes (rewritten r b)) (one_fits (rewritten r a) x.0 y.0) (one_fits (rewritten r b) x.1 y.1))
     (each_fits r items p.1 q.1)
 
 all_fit_in : (r : Rewriting) (vars : List Sort) (H : List TermTree) (known : List (List Item)) (items : List Item) → fits (equiv vars H known (map (item_rewritten r) items)) ≡ true → items_fit r items ≡ true
 all_fit_in r vars H known items e =
-    let k = and_split (nat_le (all_size H + (known_size known + items_size (map (item_rewritten r) items))) 8388608) _ e in
-    let p = small (all_size H) (known_size known + items_size (map (item_rewritten r) items)) 8388608 (leb-true _ _ k.0) in
-    let q = least (all_depth H) (max (known_depth known) (items_depth (map (item_rewritten r) items))) 1024 (leb-true _ _ k.1) in
-    each_fits r items (small (known_size known) (items_size (map (item_rewritten r) items)) 8388608 p.1).1 (least (known_depth known) (items_depth (map (item_rewritten r) items)) 1024 q.1).1
+    let k = and_split (nat_le (all_size H + (known_size known + items_size (map (item_rewritten r) items))) most_nodes) _ e in
+    let p = small (all_size H) (known_size known + items_size (map (item_rewritten r) items)) most_nodes (leb-true _ _ k.0) in
+    let q = least (all_depth H) (max (known_depth known) (items_depth (map (item_rewritten r) items))) most_depth (leb-true _ _ k.1) in
+    each_fits r items (small (known_size known) (items_size (map (item_rewritten r) items)) most_nodes p.1).1 (least (known_depth known) (items_depth (map (item_rewritten r) items)) most_depth q.1).1
 
 items-too-large : (r : Rewriting) (vars : List Sort) (H : List TermTree) (known : List (List Item)) (items : List Item) → items_fit r items ≡ false → fits (equiv vars H known (map (item_rewritten r) items)) ≡ false
 items-too-large r vars H known items h = go (fits (equiv vars H known (map (item_rewritten r) items))) refl
@@ -171,15 +172,13 @@ set_depth [] k x t e = absurd (cc)
 set_depth (y ∷ ys) zero x t e = omega arith
 set_depth (y ∷ ys) (suc k) x t e = let l : depth t ≤ all_depth (slice_set ys k t) = set_depth ys k x t e in omega arith
 
-hyp_unfit : (s : SequentTree) (k : ℕ) (x t : TermTree) → slice_get (hyps_of s) k ≡ Some x → room.fits 8388608 t ≡ false → fits (with_hyps (slice_set (hyps_of s) k t) s) ≡ false
+hyp_unfit : (s : SequentTree) (k : ℕ) (x t : TermTree) → slice_get (hyps_of s) k ≡ Some x
+    → room.fits most_nodes t ≡ false → fits (with_hyps (slice_set (hyps_of s) k t) s) ≡ false
 unfolding with_hyps
-hyp_unfit (trace vars H c) k x t e h =
-    larger (size t) (depth t) (all_size (slice_set H k t) + size c) (max (all_depth (slice_set H k t)) (depth c)) h (omega (arith, set_size H k x t e)) (omega (arith, set_depth H k x t e))
-hyp_unfit (local side vars H c) k x t e h =
-    larger (size t) (depth t) (all_size (slice_set H k t) + size c) (max (all_depth (slice_set H k t)) (depth c)) h (omega (arith, set_size H k x t e)) (omega (arith, set_depth H k x t e))
-hyp_unfit (equiv vars H known items) k x t e h =
-    larger (size t) (depth t) (all_size (slice_set H k t) + (known_size known + items_size items)) (max (all_depth (slice_set H k t)) (max (known_depth known) (items_depth items))) h
-    (omega (arith, set_size H k x t e)) (omega (arith, set_depth H k x t e))
+hyp_unfit (sequent vars H body) k x t e h =
+    larger (size t) (depth t) (all_size (slice_set H k t) + body_size body)
+    (max (all_depth (slice_set H k t)) (body_depth body)) h (omega (arith, set_size H k x t e))
+    (omega (arith, set_depth H k x t e))
 
 pub hyp-refused : (s : SequentTree) (k : ℕ) (x t : TermTree) (e : RuleFault) → hyp_of s k ≡ Some x → held t ≡ Err e → judged (Some (with_hyps (slice_set (hyps_of s) k t) s ∷ [])) ≡ Err e
 unfolding hyp_of

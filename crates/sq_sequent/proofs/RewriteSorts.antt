@@ -1,6 +1,6 @@
--- What the row that rewrites puts into a sequent may stand there.
-use Rattle.std.proofs.Common.{◌≡◌, ℕ, zero, suc, ◌+◌, ◌==◌, refl, sym, ap, ◌∙◌, subst, List, [], ◌∷◌, ◌++◌, map, length, Option, Some, None, Bool, true, false, cond, ◌&&◌, ◌||◌, not}
-use Rattle.std.specs.Prelude.{replicate, slice_get, slice_set, option_map}
+-- What is rewritten keeps its sort, speaks of what it spoke of, and has no other `diff`.
+use Rattle.std.proofs.Common.{◌≡◌, ℕ, suc, refl, ap, ◌∙◌, subst, List, [], ◌∷◌, ◌++◌, map, length, Bool, true, false, cond, ◌&&◌, ◌||◌, not}
+use Rattle.std.specs.Prelude.{replicate, slice_get}
 use Rattle.std.specs.List.{list_all}
 use Rattle.sq_base.specs.declared.sort.Sort.{Sort}
 use Rattle.sq_base.specs.declared.sort.Sort.TheVariants.{Message, Boolean, Index, Timestamp}
@@ -8,36 +8,35 @@ use Rattle.sq_term.specs.declared.term.Idx.{Idx}
 use Rattle.sq_term.specs.declared.term.Idx.TheVariants.{Free, Bound}
 use Rattle.sq_term.specs.declared.term.Side.{Side}
 use Rattle.sq_term.specs.declared.term.Side.TheVariants.{Left, Right, Both}
-use Rattle.sq_term.specs.Lists.{Each}
-use Rattle.sq_term.specs.Pure.{is_connective, has_no_indices, is_trace_sort, count_of, is_pure, are_pure}
-use Rattle.sq_term.specs.Symbols.{kind_of}
+use Rattle.sq_term.specs.Formulas.{implies, equal}
+use Rattle.sq_term.specs.Measure.{count_terms}
+use Rattle.sq_term.specs.Pure.{is_binder_sort, is_connective, has_no_indices, is_pure, are_pure}
+use Rattle.sq_term.specs.Symbols as kind
+use Rattle.sq_term.specs.Symbols.{Kind, function_number}
 use Rattle.sq_term.specs.Syntax.{TsTree, free, bound, init, pred, action, TermTree, name, fun, macro, schema, diff, le, ts_eq, idx_eq, happens, all, some, find, TermTrees, nil, cons}
 use Rattle.sq_term.specs.TreeEquality.{is_same_sort, is_same_tree}
 use Rattle.sq_term.specs.TsEquality.{is_same_idx, is_same_ts_tree}
 use Rattle.sq_term.proofs.BoolTests.{and_split, and_both}
-use Rattle.sq_term.proofs.Members.{each_single}
 use Rattle.sq_term.proofs.SameTrees.{is_same_tree-decides}
 use Rattle.sq_subst.specs.Leaves.{Leaves, map_term}
 use Rattle.sq_subst.specs.Renaming.{exchanging, idx_replaced}
 use Rattle.sq_subst.specs.Replacement.{ts_exchanged, ts_replaced, ts_all_replaced, term_replaced, terms_replaced}
 use Rattle.sq_subst.proofs.Fusion.{kept}
 use Rattle.sq_subst.proofs.TestLaws.{no_tests, passes_none}
-use Rattle.sq_system.specs.Facts.{holds_diff, hold_diff}
-use Rattle.sq_system.specs.Sequents.{Item, item, SequentTree, trace, local, equiv}
-use Rattle.sq_system.specs.Typing.{Signature, has_sort_at, is_index, are_indices, is_timestamp, applies, result_sort, macro_sort, is_binder_sort, count_terms, argument_sort, has_sort, have_sorts}
-use Rattle.sq_system.specs.WellFormed.{is_formula, is_trace_formula, is_local_formula, has_both_sorts, is_item, is_sorted, vars_of}
-use Rattle.sq_ground.proofs.Sorts.{sort_is_one}
+use Rattle.sq_typing.specs.Diffs.{holds_diff, hold_diff}
+use Rattle.sq_typing.specs.Standing.{Subject, of_trace, of_side, suits, may_stand}
+use Rattle.sq_typing.specs.Typing.{Signature, has_sort_at, is_index, are_indices, is_timestamp, applies, result_sort, macro_sort, argument_sort, has_sort, have_sorts}
+use Rattle.sq_typing.proofs.Formulas.{not_true, sort-of, suits-of, stands, stands-from, first-stands, second-stands}
+use Rattle.sq_typing.proofs.SortLaws.{sort_is_one}
+use Rattle.sq_system.specs.Sequents.{Item, item, Body, trace_body, local_body, equiv_body, body_of}
+use Rattle.sq_system.specs.WellFormed.{subject_of, has_both_sorts, is_item}
 use Rattle.sq_sequent.specs.declared.step.Dir.{Dir}
-use Rattle.sq_sequent.specs.declared.step.Target.{Target}
-use Rattle.sq_sequent.specs.declared.step.Target.TheVariants as target
-use Rattle.sq_sequent.specs.Premises.{asking, with_hyps}
-use Rattle.sq_sequent.specs.Rewriting.{Rewriting, term_by, time_by, index_by, read_in, turned, rewriting_of, rewritten, item_rewritten, goal_rewritten, hyp_rewritten, items_rewritten, rewriting_at, rew_row}
-use Rattle.sq_sequent.specs.Standing.{suits_side}
-use Rattle.sq_sequent.specs.Views.{hyps_of, goal_of, hyp_of}
+use Rattle.sq_sequent.specs.declared.step.Dir.TheVariants.{Forward, Backward}
+use Rattle.sq_sequent.specs.Rewriting.{Rewriting, term_by, time_by, index_by, turned, rewritten, item_rewritten}
+use Rattle.sq_sequent.specs.Rows.{IsOn, Equates, messages, times, indices, formulas}
+use Rattle.sq_sequent.specs.Site.{Site}
 use Rattle.sq_sequent.proofs.KeptSorts.{both_kept, sort_kept}
 use Rattle.sq_sequent.proofs.Opened.{sort_at-more, purity_kept, diff_kept}
-use Rattle.sq_sequent.proofs.RewriteReads.{reads, IsTyped, typed, turned-typed, NoTerms, no_terms-trace, no_terms-equiv, local-parts}
-use Rattle.sq_sequent.proofs.Suited.{suited, suited-from, hyp-suited, goal-suited, asking-sorted}
 
 -- ---- what needs no binder has its sort below binders
 
@@ -93,13 +92,13 @@ module _ (g : Signature) (r : Sort) (from to : TermTree) (from_sort : has_sort g
     term-sort bs s (idx_eq i j) h = here_or bs s (idx_eq i j) (idx_eq i j) h h (is_same_tree (idx_eq i j) from) refl
     term-sort bs s (happens t) h = here_or bs s (happens t) (happens t) h h (is_same_tree (happens t) from) refl
     term-sort bs s (fun f is ts) h =
-        let p = and_split (is_same_sort (result_sort g (slice_get g.funs f)) s) _ h in
-        let q = and_split (applies g (slice_get g.funs f) (length is) (count_terms ts)) _ p.1 in
+        let p = and_split (is_same_sort (result_sort (slice_get g.funs (function_number f))) s) _ h in
+        let q = and_split (applies (slice_get g.funs (function_number f)) (length is) (count_terms ts)) _ p.1 in
         let u = and_split (are_indices g bs is) (have_sorts g bs f 0 ts) q.1 in
         here_or bs s (fun f is ts) (fun f is (terms_replaced from to ts)) h
-        (and_both (is_same_sort (result_sort g (slice_get g.funs f)) s) _ p.0
-        (and_both (applies g (slice_get g.funs f) (length is) (count_terms (terms_replaced from to ts))) _
-        (ap (applies g (slice_get g.funs f) (length is)) (terms-count ts) ∙ q.0)
+        (and_both (is_same_sort (result_sort (slice_get g.funs (function_number f))) s) _ p.0
+        (and_both (applies (slice_get g.funs (function_number f)) (length is) (count_terms (terms_replaced from to ts))) _
+        (ap (applies (slice_get g.funs (function_number f)) (length is)) (terms-count ts) ∙ q.0)
         (and_both (are_indices g bs is) _ u.0 (terms-sorts bs f 0 ts u.1))))
         (is_same_tree (fun f is ts) from) refl
     term-sort bs s (diff a b) h =
@@ -129,7 +128,7 @@ module _ (g : Signature) (r : Sort) (from to : TermTree) (from_sort : has_sort g
         (and_both (has_sort g inner Message (term_replaced from to a)) _ (term-sort inner Message a u.0) (term-sort bs Message b u.1))))
         (is_same_tree (find c t a b) from) refl
 
-    terms-sorts : (bs : List Sort) (f k : ℕ) (ts : TermTrees) → have_sorts g bs f k ts ≡ true → have_sorts g bs f k (terms_replaced from to ts) ≡ true
+    terms-sorts : (bs : List Sort) (f : Kind) (k : ℕ) (ts : TermTrees) → have_sorts g bs f k ts ≡ true → have_sorts g bs f k (terms_replaced from to ts) ≡ true
     terms-sorts bs f k nil h = refl
     terms-sorts bs f k (cons t ts) h =
         both_kept (has_sort g bs (argument_sort f k) t) (have_sorts g bs f (suc k) ts) (has_sort g bs (argument_sort f k) (term_replaced from to t)) _
@@ -207,12 +206,12 @@ module _ (g : Signature) (from to : TsTree) (to_time : is_timestamp g [] to ≡ 
     time-sort bs s (le t u) h = both_kept (is_same_sort Boolean s) _ (is_same_sort Boolean s) _ (λ q. q) (both_times bs t u) h
     time-sort bs s (ts_eq t u) h = both_kept (is_same_sort Boolean s) _ (is_same_sort Boolean s) _ (λ q. q) (both_times bs t u) h
     time-sort bs s (fun f is ts) h =
-        let p = and_split (is_same_sort (result_sort g (slice_get g.funs f)) s) _ h in
-        let q = and_split (applies g (slice_get g.funs f) (length is) (count_terms ts)) _ p.1 in
+        let p = and_split (is_same_sort (result_sort (slice_get g.funs (function_number f))) s) _ h in
+        let q = and_split (applies (slice_get g.funs (function_number f)) (length is) (count_terms ts)) _ p.1 in
         let u = and_split (are_indices g bs is) (have_sorts g bs f 0 ts) q.1 in
-        and_both (is_same_sort (result_sort g (slice_get g.funs f)) s) _ p.0
-        (and_both (applies g (slice_get g.funs f) (length is) (count_terms (ts_all_replaced from to ts))) _
-        (ap (applies g (slice_get g.funs f) (length is)) (times-count ts) ∙ q.0)
+        and_both (is_same_sort (result_sort (slice_get g.funs (function_number f))) s) _ p.0
+        (and_both (applies (slice_get g.funs (function_number f)) (length is) (count_terms (ts_all_replaced from to ts))) _
+        (ap (applies (slice_get g.funs (function_number f)) (length is)) (times-count ts) ∙ q.0)
         (and_both (are_indices g bs is) _ u.0 (time-sorts bs f 0 ts u.1)))
     time-sort bs s (diff a b) h =
         both_kept (has_sort g bs s a) (has_sort g bs s b) (has_sort g bs s (ts_replaced from to a)) _ (time-sort bs s a) (time-sort bs s b) h
@@ -228,21 +227,21 @@ module _ (g : Signature) (from to : TsTree) (to_time : is_timestamp g [] to ≡ 
         (both_kept (has_sort g (replicate c Index ++ bs) Message a) (has_sort g bs Message b) (has_sort g (replicate c Index ++ bs) Message (ts_replaced from to a)) _
         (time-sort (replicate c Index ++ bs) Message a) (time-sort bs Message b))) h
 
-    time-sorts : (bs : List Sort) (f k : ℕ) (ts : TermTrees) → have_sorts g bs f k ts ≡ true → have_sorts g bs f k (ts_all_replaced from to ts) ≡ true
+    time-sorts : (bs : List Sort) (f : Kind) (k : ℕ) (ts : TermTrees) → have_sorts g bs f k ts ≡ true → have_sorts g bs f k (ts_all_replaced from to ts) ≡ true
     time-sorts bs f k nil h = refl
     time-sorts bs f k (cons t ts) h =
         both_kept (has_sort g bs (argument_sort f k) t) (have_sorts g bs f (suc k) ts) (has_sort g bs (argument_sort f k) (ts_replaced from to t)) _
         (time-sort bs (argument_sort f k) t) (time-sorts bs f (suc k) ts) h
 
 module _ (from to : TsTree) where
-  count-alike : (ts : TermTrees) → count_of (ts_all_replaced from to ts) ≡ count_of ts
+  count-alike : (ts : TermTrees) → count_terms (ts_all_replaced from to ts) ≡ count_terms ts
   count-alike nil = refl
-  count-alike (cons t ts) = ap (λ n. n + 1) (count-alike ts)
+  count-alike (cons t ts) = ap suc (count-alike ts)
 
   mutual
     time-purity : (t : TermTree) → is_pure (ts_replaced from to t) ≡ is_pure t
     time-purity (name n is) = refl
-    time-purity (fun f is ts) = λ i. is_connective (kind_of f) (count-alike ts i) && (has_no_indices is && time-purities ts i)
+    time-purity (fun f is ts) = λ i. is_connective f (count-alike ts i) && (has_no_indices is && time-purities ts i)
     time-purity (macro x t) = refl
     time-purity (schema k) = refl
     time-purity (diff a b) = refl
@@ -250,8 +249,8 @@ module _ (from to : TsTree) where
     time-purity (ts_eq t s) = refl
     time-purity (idx_eq i j) = refl
     time-purity (happens t) = refl
-    time-purity (all s t) = ap (λ b. is_trace_sort s && b) (time-purity t)
-    time-purity (some s t) = ap (λ b. is_trace_sort s && b) (time-purity t)
+    time-purity (all s t) = ap (λ b. is_binder_sort s && b) (time-purity t)
+    time-purity (some s t) = ap (λ b. is_binder_sort s && b) (time-purity t)
     time-purity (find c t a b) = refl
 
     time-purities : (ts : TermTrees) → are_pure (ts_all_replaced from to ts) ≡ are_pure ts
@@ -291,154 +290,119 @@ module _ (g : Signature) (from to : Idx) (to_index : is_index g [] to ≡ true) 
 
 -- ---- what is rewritten
 
-sorts-kept : (g : Signature) (s : SequentTree) (r : Rewriting) → IsTyped g s r → (q : Sort) (t : TermTree) → has_sort g [] q t ≡ true → has_sort g [] q (rewritten r t) ≡ true
-sorts-kept g (trace vars H c) (term_by a b) h q t e = absurd h
-sorts-kept g (equiv vars H known items) (term_by a b) h q t e = absurd h
-sorts-kept g (local side vars H c) (term_by a b) h q t e = term-sort g h.0 a b h.1 h.2 [] q t e
-sorts-kept g s (time_by x y) h q t e = time-sort g x y h.1 [] q t e
-sorts-kept g s (index_by i j) h q t e = index-sort g i j h.1 q t e
+-- what is exchanged in what speaks of this: terms of one sort on a side, timestamps, or indices
+abbrev pub IsTyped : Signature → Subject → Rewriting → Type 0
+IsTyped g about (term_by a b) =
+    (side : Side) × (r : Sort) × (about ≡ of_side side) × (may_stand g about r a ≡ true)
+    × (may_stand g about r b ≡ true)
+IsTyped g about (time_by x y) = (is_timestamp g [] x ≡ true) × (is_timestamp g [] y ≡ true)
+IsTyped g about (index_by i j) = (is_index g [] i ≡ true) × (is_index g [] j ≡ true)
 
-purity-kept : (r : Rewriting) → NoTerms r → (t : TermTree) → is_pure (rewritten r t) ≡ is_pure t
-purity-kept (term_by a b) h t = absurd h
-purity-kept (time_by x y) h t = time-purity x y t
-purity-kept (index_by i j) h t = purity_kept (exchanging i j) (λ m k. refl) t 0
+-- terms are not exchanged in what speaks of the trace
+pub anywhere : (g : Signature) (r : Rewriting) (about : Subject) → IsTyped g of_trace r
+    → IsTyped g about r
+anywhere g (term_by a b) about (side, r, is, h, k) = absurd (cc)
+anywhere g (time_by x y) about h = h
+anywhere g (index_by i j) about h = h
 
-diff-kept : (r : Rewriting) → NoTerms r → (t : TermTree) → holds_diff (rewritten r t) ≡ holds_diff t
-diff-kept (term_by a b) h t = absurd h
-diff-kept (time_by x y) h t = time-diff x y t
-diff-kept (index_by i j) h t = diff_kept (exchanging i j) (λ m k. refl) t 0
+pub turned-typed : (g : Signature) (about : Subject) (d : Dir) (r : Rewriting)
+    → IsTyped g about r → IsTyped g about (turned d r)
+turned-typed g about Forward r h = h
+turned-typed g about Backward (term_by a b) (side, r, is, h, k) = (side, r, is, k, h)
+turned-typed g about Backward (time_by x y) (h, k) = (k, h)
+turned-typed g about Backward (index_by i j) (h, k) = (k, h)
 
-not_true : (b : Bool) → not b ≡ true → b ≡ false
-not_true true e = absurd (cc)
-not_true false e = refl
+module _ (g : Signature) where
+  no_term-diff : (side : Side) (a b t : TermTree) → suits (of_side side) b ≡ true
+      → suits (of_side side) t ≡ true → suits (of_side side) (term_replaced a b t) ≡ true
+  no_term-diff Both a b t h e = refl
+  no_term-diff Left a b t h e =
+      ap not (term-no_diff a b (not_true (holds_diff b) h) t (not_true (holds_diff t) e))
+  no_term-diff Right a b t h e =
+      ap not (term-no_diff a b (not_true (holds_diff b) h) t (not_true (holds_diff t) e))
 
-no_diff-kept : (g : Signature) (side : Side) (vars : List Sort) (H : List TermTree) (c : TermTree) (r : Rewriting) → IsTyped g (local side vars H c) r
-    → (t : TermTree) → suits_side side t ≡ true → suits_side side (rewritten r t) ≡ true
-no_diff-kept g Both vars H c r h t e = refl
-no_diff-kept g Left vars H c (term_by a b) h t e = ap not (term-no_diff a b (not_true (holds_diff b) h.4) t (not_true (holds_diff t) e))
-no_diff-kept g Right vars H c (term_by a b) h t e = ap not (term-no_diff a b (not_true (holds_diff b) h.4) t (not_true (holds_diff t) e))
-no_diff-kept g Left vars H c (time_by x y) h t e = ap not (time-diff x y t) ∙ e
-no_diff-kept g Right vars H c (time_by x y) h t e = ap not (time-diff x y t) ∙ e
-no_diff-kept g Left vars H c (index_by i j) h t e = ap not (diff_kept (exchanging i j) (λ m k. refl) t 0) ∙ e
-no_diff-kept g Right vars H c (index_by i j) h t e = ap not (diff_kept (exchanging i j) (λ m k. refl) t 0) ∙ e
+  side-stands : (side : Side) (r : Sort) (a b : TermTree) → may_stand g (of_side side) r a ≡ true
+      → may_stand g (of_side side) r b ≡ true → (s : Sort) (t : TermTree)
+      → may_stand g (of_side side) s t ≡ true → may_stand g (of_side side) s (term_replaced a b t) ≡ true
+  side-stands side r a b h k s t e =
+      stands g (of_side side) s (term_replaced a b t)
+      (term-sort g r a b (sort-of g (of_side side) r a h) (sort-of g (of_side side) r b k) [] s t (sort-of g (of_side side) s t e))
+      (no_term-diff side a b t (suits-of g (of_side side) r b k) (suits-of g (of_side side) s t e))
 
-local-from : (g : Signature) (side : Side) (t : TermTree) → is_formula g t ≡ true → suits_side side t ≡ true → is_local_formula g side t ≡ true
-local-from g Both t h e = h
-local-from g Left t h e = and_both (is_formula g t) (not (holds_diff t)) h e
-local-from g Right t h e = and_both (is_formula g t) (not (holds_diff t)) h e
+  pub stands-rewritten : (about : Subject) (r : Rewriting) → IsTyped g about r → (s : Sort) (t : TermTree)
+      → may_stand g about s t ≡ true → may_stand g about s (rewritten r t) ≡ true
+  stands-rewritten of_trace (term_by a b) (side, r, is, h, k) s t e = absurd (cc)
+  stands-rewritten (of_side own) (term_by a b) (side, r, is, h, k) s t e = side-stands own r a b h k s t e
+  stands-rewritten about (time_by x y) h s t e =
+      stands-from g g about s s t (ts_replaced x y t) (time-sort g x y h.1 [] s t)
+      (λ p. time-purity x y t ∙ p) (λ d. time-diff x y t ∙ d) e
+  stands-rewritten about (index_by i j) h s t e =
+      stands-from g g about s s t (idx_replaced i j t) (index-sort g i j h.1 s t)
+      (λ p. purity_kept (exchanging i j) (λ m k. refl) t 0 ∙ p)
+      (λ d. diff_kept (exchanging i j) (λ m k. refl) t 0 ∙ d) e
 
-suited-rewritten : (g : Signature) (s : SequentTree) (r : Rewriting) → IsTyped g s r → (t : TermTree) → suited g s t ≡ true → suited g s (rewritten r t) ≡ true
-suited-rewritten g (trace vars H c) r h t =
-    let n = no_terms-trace g vars H c r h in
-    suited-from g (trace vars H c) t (rewritten r t) (sorts-kept g (trace vars H c) r h Boolean t) (λ e. purity-kept r n t ∙ e) (λ e. diff-kept r n t ∙ e)
-suited-rewritten g (equiv vars H known items) r h t =
-    let n = no_terms-equiv g vars H known items r h in
-    suited-from g (equiv vars H known items) t (rewritten r t) (sorts-kept g (equiv vars H known items) r h Boolean t) (λ e. purity-kept r n t ∙ e) (λ e. diff-kept r n t ∙ e)
-suited-rewritten g (local side vars H c) r h t = λ e.
-    let p = local-parts g side t e in
-    local-from g side (rewritten r t) (sorts-kept g (local side vars H c) r h Boolean t p.0) (no_diff-kept g side vars H c r h t p.1)
+  -- what a hypothesis rewrites
+  pub typed : (at : Site) (f : TermTree) (r : Rewriting) → Equates at f r
+      → may_stand g (subject_of (body_of at.sequent)) Boolean f ≡ true
+      → IsTyped g (subject_of (body_of at.sequent)) r
+  typed at _ _ (messages u v) e = of_messages (subject_of (body_of at.sequent)) u v e
+    where
+      of_messages : (about : Subject) (u v : TermTree) → may_stand g about Boolean (equal u v) ≡ true
+          → IsTyped g about (term_by u v)
+      of_messages of_trace u v e =
+          let z : false ≡ true = suits-of g of_trace Boolean (equal u v) e in
+          absurd (cc)
+      of_messages (of_side side) u v e = (
+        side,
+        Message,
+        refl,
+        first-stands g (of_side side) Boolean kind.equality u v e,
+        second-stands g (of_side side) Boolean kind.equality u v e,
+      )
+  typed at _ _ (times t u) e =
+      and_split (is_timestamp g [] t) (is_timestamp g [] u)
+      (sort-of g (subject_of (body_of at.sequent)) Boolean (ts_eq t u) e)
+  typed at _ _ (indices i j) e =
+      and_split (is_index g [] i) (is_index g [] j)
+      (sort-of g (subject_of (body_of at.sequent)) Boolean (idx_eq i j) e)
+  typed at _ _ (formulas s a b l) e =
+      let there = first-stands g (subject_of (body_of at.sequent)) Boolean kind.conjunction (implies a b) (implies b a) e in (
+        s,
+        Boolean,
+        is_on (body_of at.sequent) l,
+        first-stands g (subject_of (body_of at.sequent)) Boolean kind.implication a b there,
+        second-stands g (subject_of (body_of at.sequent)) Boolean kind.implication a b there,
+      )
+    where
+      is_on : (body : Body) → IsOn body s → subject_of body ≡ of_side s
+      is_on (trace_body c) h = absurd h
+      is_on (local_body own c) h = ap of_side h
+      is_on (equiv_body known items) h = absurd h
 
--- ---- items
+-- ---- items of an equivalence
 
-one_of_both : (p q p' q' : Bool) → (p ≡ true → p' ≡ true) → (q ≡ true → q' ≡ true) → (p || q) ≡ true → (p' || q') ≡ true
+one_of_both : (p q p' q' : Bool) → (p ≡ true → p' ≡ true) → (q ≡ true → q' ≡ true)
+    → (p || q) ≡ true → (p' || q') ≡ true
 one_of_both true q p' q' f k e = ap (λ b. b || q') (f refl)
 one_of_both false q true q' f k e = refl
 one_of_both false q false q' f k e = k e
 
-module _ (g : Signature) (vars : List Sort) (H : List TermTree) (known : List (List Item)) (items : List Item) (r : Rewriting) (h : IsTyped g (equiv vars H known items) r) where
-  side-kept : (s : Sort) (t : TermTree) → (has_sort g [] s t && not (holds_diff t)) ≡ true → (has_sort g [] s (rewritten r t) && not (holds_diff (rewritten r t))) ≡ true
-  side-kept s t e =
-      both_kept (has_sort g [] s t) (not (holds_diff t)) (has_sort g [] s (rewritten r t)) _ (sorts-kept g (equiv vars H known items) r h s t)
-      (λ q. ap not (diff-kept r (no_terms-equiv g vars H known items r h) t) ∙ q) e
-
-  both-sorts-kept : (s : Sort) (a b : TermTree) → has_both_sorts g s (item a b) ≡ true → has_both_sorts g s (item_rewritten r (item a b)) ≡ true
+module _ (g : Signature) (r : Rewriting) (h : IsTyped g of_trace r) where
+  both-sorts-kept : (s : Sort) (a b : TermTree) → has_both_sorts g s (item a b) ≡ true
+      → has_both_sorts g s (item_rewritten r (item a b)) ≡ true
   both-sorts-kept s a b e =
-      both_kept (has_sort g [] s a && not (holds_diff a)) (has_sort g [] s b && not (holds_diff b)) (has_sort g [] s (rewritten r a) && not (holds_diff (rewritten r a))) _
-      (side-kept s a) (side-kept s b) e
+      both_kept (may_stand g (of_side Left) s a) (may_stand g (of_side Right) s b)
+      (may_stand g (of_side Left) s (rewritten r a)) _
+      (stands-rewritten g (of_side Left) r (anywhere g r (of_side Left) h) s a)
+      (stands-rewritten g (of_side Right) r (anywhere g r (of_side Right) h) s b) e
 
-  items-kept : (is : List Item) → list_all (is_item g) is ≡ true → list_all (is_item g) (map (item_rewritten r) is) ≡ true
+  pub items-kept : (is : List Item) → list_all (is_item g) is ≡ true
+      → list_all (is_item g) (map (item_rewritten r) is) ≡ true
   items-kept [] e = refl
   items-kept (item a b ∷ is) e =
       both_kept (is_item g (item a b)) (list_all (is_item g) is) (is_item g (item_rewritten r (item a b))) _
-      (one_of_both (has_both_sorts g Message (item a b)) (has_both_sorts g Boolean (item a b)) (has_both_sorts g Message (item_rewritten r (item a b))) (has_both_sorts g Boolean (item_rewritten r (item a b)))
+      (one_of_both (has_both_sorts g Message (item a b)) (has_both_sorts g Boolean (item a b))
+      (has_both_sorts g Message (item_rewritten r (item a b)))
+      (has_both_sorts g Boolean (item_rewritten r (item a b)))
       (both-sorts-kept Message a b) (both-sorts-kept Boolean a b))
       (items-kept is) e
-
--- ---- the premise
-
-all-set : {A : Type 0} (p : A → Bool) (xs : List A) (k : ℕ) (x : A) → list_all p xs ≡ true → p x ≡ true → list_all p (slice_set xs k x) ≡ true
-all-set p [] k x h e = refl
-all-set p (y ∷ ys) zero x h e = and_both (p x) (list_all p ys) e (and_split (p y) (list_all p ys) h).1
-all-set p (y ∷ ys) (suc k) x h e = let s = and_split (p y) (list_all p ys) h in and_both (p y) (list_all p (slice_set ys k x)) s.0 (all-set p ys k x s.1 e)
-
-module _ (g : Signature) where
-  -- well-sorted, over the same variables
-  abbrev Sorted : SequentTree → SequentTree → Type 0
-  Sorted s p = (vars_of p ≡ vars_of s) × (is_sorted g p ≡ true)
-
-  abbrev Sorts : SequentTree → Option (List SequentTree) → Type 0
-  Sorts s row = (ps : List SequentTree) → row ≡ Some ps → Each (Sorted s) ps
-
-  nothing : (s : SequentTree) → Sorts s None
-  nothing s ps e = absurd (cc)
-
-  one : (s p : SequentTree) → Sorted s p → Sorts s (Some (p ∷ []))
-  one s p h ps e = let z : ps ≡ p ∷ [] = cc in subst (Each (Sorted s)) (sym z) (each_single p (Sorted s) h)
-
-  vars-asking : (s : SequentTree) (t : TermTree) → vars_of (asking s t) ≡ vars_of s
-  unfolding asking
-  vars-asking (trace vars H c) t = refl
-  vars-asking (local side vars H c) t = refl
-  vars-asking (equiv vars H known items) t = refl
-
-  set-sorted : (s : SequentTree) (n : ℕ) (t : TermTree) → is_sorted g s ≡ true → suited g s t ≡ true → Sorted s (with_hyps (slice_set (hyps_of s) n t) s)
-  unfolding with_hyps
-  set-sorted (trace vars H c) n t h e =
-      let p = and_split (list_all (is_trace_formula g) H) _ h in
-      (refl, and_both (list_all (is_trace_formula g) (slice_set H n t)) (is_trace_formula g c) (all-set (is_trace_formula g) H n t p.0 e) p.1)
-  set-sorted (local side vars H c) n t h e =
-      let p = and_split (list_all (is_local_formula g side) H) _ h in
-      (refl, and_both (list_all (is_local_formula g side) (slice_set H n t)) (is_local_formula g side c) (all-set (is_local_formula g side) H n t p.0 e) p.1)
-  set-sorted (equiv vars H known items) n t h e =
-      let p = and_split (list_all (is_trace_formula g) H) _ h in
-      (refl, and_both (list_all (is_trace_formula g) (slice_set H n t)) (list_all (list_all (is_item g)) known && list_all (is_item g) items) (all-set (is_trace_formula g) H n t p.0 e) p.1)
-
-  goal-sorts : (s : SequentTree) (r : Rewriting) (o : Option TermTree) → IsTyped g s r → is_sorted g s ≡ true → goal_of s ≡ o → Sorts s (goal_rewritten s r o)
-  goal-sorts s r None k w q = nothing s
-  goal-sorts s r (Some c) k w q =
-      one s (asking s (rewritten r c)) (vars-asking s (rewritten r c), asking-sorted g s (rewritten r c) w (suited-rewritten g s r k c (goal-suited g s c w q)))
-
-  hyp-sorts : (s : SequentTree) (r : Rewriting) (n : ℕ) (o : Option TermTree) → IsTyped g s r → is_sorted g s ≡ true → hyp_of s n ≡ o → Sorts s (hyp_rewritten s n r o)
-  hyp-sorts s r n None k w q = nothing s
-  hyp-sorts s r n (Some t) k w q =
-      one s (with_hyps (slice_set (hyps_of s) n (rewritten r t)) s) (set-sorted s n (rewritten r t) w (suited-rewritten g s r k t (hyp-suited g s n t w q)))
-
-  items-sorts : (s : SequentTree) (r : Rewriting) → IsTyped g s r → is_sorted g s ≡ true → Sorts s (items_rewritten s r)
-  items-sorts (trace vars H c) r k w = nothing (trace vars H c)
-  items-sorts (local side vars H c) r k w = nothing (local side vars H c)
-  items-sorts (equiv vars H known items) r k w =
-      let p = and_split (list_all (is_trace_formula g) H) _ w in
-      let q = and_split (list_all (list_all (is_item g)) known) (list_all (is_item g) items) p.1 in
-      one (equiv vars H known items) (equiv vars H known (map (item_rewritten r) items)) (
-        refl,
-        and_both (list_all (is_trace_formula g) H) _ p.0
-            (and_both (list_all (list_all (is_item g)) known) (list_all (is_item g) (map (item_rewritten r) items)) q.0 (items-kept g vars H known items r k items q.1)),
-      )
-
-  other-sorts : (s : SequentTree) (r : Rewriting) (n : ℕ) (b : Bool) → IsTyped g s r → is_sorted g s ≡ true → Sorts s (cond b None (hyp_rewritten s n r (hyp_of s n)))
-  other-sorts s r n true k w = nothing s
-  other-sorts s r n false k w = hyp-sorts s r n (hyp_of s n) k w refl
-
-  target-sorts : (s : SequentTree) (r : Rewriting) (h : ℕ) (p : Target) → IsTyped g s r → is_sorted g s ≡ true → Sorts s (rewriting_at s h p r)
-  target-sorts s r h target.Goal k w = goal-sorts s r (goal_of s) k w refl
-  target-sorts s r h target.Items k w = items-sorts s r k w
-  target-sorts s r h (target.Hyp n) k w = other-sorts s r n (n == h) k w
-
-  pub rew_sorts : (s : SequentTree) (h : ℕ) (d : Dir) (p : Target) (o : Option TermTree) → is_sorted g s ≡ true → hyp_of s h ≡ o → Sorts s (rew_row s h p (rewriting_of s d o))
-  unfolding rewriting_of
-  rew_sorts s h d p None w q = nothing s
-  rew_sorts s h d p (Some F) w q = go (read_in s F) refl
-    where
-      go : (o : Option Rewriting) → read_in s F ≡ o → Sorts s (rew_row s h p (option_map (turned d) o))
-      go None e = nothing s
-      go (Some r) e = target-sorts s (turned d r) h p (turned-typed g s d r (typed g s F r (hyp-suited g s h F w q) (reads s F r e))) w

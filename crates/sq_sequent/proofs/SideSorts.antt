@@ -1,29 +1,32 @@
 -- A side of a term has the term's sort and holds no Diff.
-use Rattle.std.proofs.Common.{◌≡◌, ℕ, suc, refl, ap, ◌∙◌, List, [], ◌∷◌, ◌++◌, map, replicate, length, Bool, true, false, cond, ◌||◌, not}
-use Rattle.std.specs.Prelude.{slice_get}
+use Rattle.std.proofs.Common.{◌≡◌, ℕ, suc, refl, ap, ◌∙◌, List, [], ◌∷◌, ◌++◌, map, replicate, length, Bool, true, false, ◌||◌, not}
+use Rattle.std.specs.Prelude.{slice_get, if◌then◌else◌}
 use Rattle.std.specs.List.{list_all}
 use Rattle.sq_base.specs.declared.sort.Sort.{Sort}
 use Rattle.sq_base.specs.declared.sort.Sort.TheVariants.{Message, Boolean, Index}
 use Rattle.sq_term.specs.declared.term.Side.{Side}
 use Rattle.sq_term.specs.declared.term.Side.TheVariants.{Left, Right, Both}
+use Rattle.sq_term.specs.Measure.{count_terms}
+use Rattle.sq_term.specs.Pure.{is_binder_sort}
+use Rattle.sq_term.specs.Symbols.{Kind, function_number}
 use Rattle.sq_term.specs.Syntax.{TermTree, name, fun, macro, schema, diff, le, ts_eq, idx_eq, happens, all, some, find, TermTrees, nil, cons}
 use Rattle.sq_term.specs.TreeEquality.{is_same_sort}
 use Rattle.sq_term.proofs.BoolTests.{and_split, and_both}
 use Rattle.sq_subst.specs.Projection.{side_of, sides_of, projected}
-use Rattle.sq_system.specs.Facts.{holds_diff, hold_diff}
-use Rattle.sq_system.specs.Typing.{Signature, are_indices, applies, result_sort, is_binder_sort, count_terms, argument_sort, has_sort, have_sorts}
-use Rattle.sq_system.specs.WellFormed.{is_formula, is_local_formula}
+use Rattle.sq_typing.specs.Diffs.{holds_diff, hold_diff}
+use Rattle.sq_typing.specs.Typing.{Signature, are_indices, applies, result_sort, argument_sort, has_sort, have_sorts}
+use Rattle.sq_typing.specs.Standing.{of_side, may_stand}
 
 sides-count : (left : Bool) (ts : TermTrees) → count_terms (sides_of left ts) ≡ count_terms ts
 sides-count left nil = refl
 sides-count left (cons t ts) = ap suc (sides-count left ts)
 
-either : (b left : Bool) (P : TermTree → Bool) (t u : TermTree) → P t ≡ b → P u ≡ b → P (cond left t u) ≡ b
+either : (b left : Bool) (P : TermTree → Bool) (t u : TermTree) → P t ≡ b → P u ≡ b → P (if left then t else u) ≡ b
 either b true P t u h k = h
 either b false P t u h k = k
 
 mutual
-  side-sort : (g : Signature) (left : Bool) (bs : List Sort) (s : Sort) (t : TermTree) → has_sort g bs s t ≡ true → has_sort g bs s (side_of left t) ≡ true
+  pub side-sort : (g : Signature) (left : Bool) (bs : List Sort) (s : Sort) (t : TermTree) → has_sort g bs s t ≡ true → has_sort g bs s (side_of left t) ≡ true
   side-sort g left bs s (name n is) h = h
   side-sort g left bs s (macro m t) h = h
   side-sort g left bs s (schema k) h = h
@@ -32,12 +35,12 @@ mutual
   side-sort g left bs s (idx_eq i j) h = h
   side-sort g left bs s (happens t) h = h
   side-sort g left bs s (fun f is ts) h =
-      let p = and_split (is_same_sort (result_sort g (slice_get g.funs f)) s) _ h in
-      let q = and_split (applies g (slice_get g.funs f) (length is) (count_terms ts)) _ p.1 in
+      let p = and_split (is_same_sort (result_sort (slice_get g.funs (function_number f))) s) _ h in
+      let q = and_split (applies (slice_get g.funs (function_number f)) (length is) (count_terms ts)) _ p.1 in
       let r = and_split (are_indices g bs is) (have_sorts g bs f 0 ts) q.1 in
-      and_both (is_same_sort (result_sort g (slice_get g.funs f)) s) _ p.0
-      (and_both (applies g (slice_get g.funs f) (length is) (count_terms (sides_of left ts))) _
-      (ap (applies g (slice_get g.funs f) (length is)) (sides-count left ts) ∙ q.0)
+      and_both (is_same_sort (result_sort (slice_get g.funs (function_number f))) s) _ p.0
+      (and_both (applies (slice_get g.funs (function_number f)) (length is) (count_terms (sides_of left ts))) _
+      (ap (applies (slice_get g.funs (function_number f)) (length is)) (sides-count left ts) ∙ q.0)
       (and_both (are_indices g bs is) _ r.0 (sides-sorts g left bs f 0 ts r.1)))
   side-sort g left bs s (diff a b) h =
       let p = and_split (has_sort g bs s a) (has_sort g bs s b) h in
@@ -59,7 +62,7 @@ mutual
       (and_both (has_sort g (replicate c Index ++ bs) Message (side_of left u)) _ (side-sort g left (replicate c Index ++ bs) Message u r.0)
       (side-sort g left bs Message v r.1)))
 
-  sides-sorts : (g : Signature) (left : Bool) (bs : List Sort) (f k : ℕ) (ts : TermTrees) → have_sorts g bs f k ts ≡ true → have_sorts g bs f k (sides_of left ts) ≡ true
+  sides-sorts : (g : Signature) (left : Bool) (bs : List Sort) (f : Kind) (k : ℕ) (ts : TermTrees) → have_sorts g bs f k ts ≡ true → have_sorts g bs f k (sides_of left ts) ≡ true
   sides-sorts g left bs f k nil h = refl
   sides-sorts g left bs f k (cons t ts) h =
       let p = and_split (has_sort g bs (argument_sort f k) t) (have_sorts g bs f (suc k) ts) h in
@@ -90,14 +93,23 @@ mutual
   sides-no_diff left nil = refl
   sides-no_diff left (cons t ts) = or_neither (holds_diff (side_of left t)) (hold_diff (sides_of left ts)) (side-no_diff left t) (sides-no_diff left ts)
 
--- a formula's side may stand in the sequent of that side
-pub side-formula : (g : Signature) (side : Side) (t : TermTree) → is_formula g t ≡ true → is_local_formula g side (projected side t) ≡ true
-side-formula g Left t h = and_both (is_formula g (side_of true t)) _ (side-sort g true [] Boolean t h) (ap not (side-no_diff true t))
-side-formula g Right t h = and_both (is_formula g (side_of false t)) _ (side-sort g false [] Boolean t h) (ap not (side-no_diff false t))
-side-formula g Both t h = h
+-- a side may stand in the sequent of that side
+pub side-stands : (g : Signature) (side : Side) (s : Sort) (t : TermTree)
+    → may_stand g (of_side Both) s t ≡ true → may_stand g (of_side side) s (projected side t) ≡ true
+side-stands g Left s t h =
+    and_both (has_sort g [] s (side_of true t)) _
+    (side-sort g true [] s t (and_split (has_sort g [] s t) true h).0) (ap not (side-no_diff true t))
+side-stands g Right s t h =
+    and_both (has_sort g [] s (side_of false t)) _
+    (side-sort g false [] s t (and_split (has_sort g [] s t) true h).0) (ap not (side-no_diff false t))
+side-stands g Both s t h = h
 
-pub side-formulas : (g : Signature) (side : Side) (H : List TermTree) → list_all (is_local_formula g Both) H ≡ true → list_all (is_local_formula g side) (map (projected side) H) ≡ true
-side-formulas g side [] h = refl
-side-formulas g side (t ∷ ts) h =
-    let p = and_split (is_local_formula g Both t) (list_all (is_local_formula g Both) ts) h in
-    and_both (is_local_formula g side (projected side t)) _ (side-formula g side t p.0) (side-formulas g side ts p.1)
+pub sides-stand : (g : Signature) (side : Side) (H : List TermTree)
+    → list_all (may_stand g (of_side Both) Boolean) H ≡ true
+    → list_all (may_stand g (of_side side) Boolean) (map (projected side) H) ≡ true
+sides-stand g side [] h = refl
+sides-stand g side (t ∷ ts) h =
+    let p = and_split (may_stand g (of_side Both) Boolean t)
+    (list_all (may_stand g (of_side Both) Boolean) ts) h in
+    and_both (may_stand g (of_side side) Boolean (projected side t)) _
+    (side-stands g side Boolean t p.0) (sides-stand g side ts p.1)

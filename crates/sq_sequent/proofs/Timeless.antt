@@ -5,10 +5,13 @@ use Rattle.sq_base.specs.declared.sort.Sort.{Sort}
 use Rattle.sq_base.specs.declared.sort.Sort.TheVariants.{Message, Boolean, Index}
 use Rattle.sq_term.specs.declared.term.Idx.{Idx}
 use Rattle.sq_term.specs.declared.term.Idx.TheVariants.{Free, Bound}
+use Rattle.sq_term.specs.Measure.{count_terms}
+use Rattle.sq_term.specs.Pure.{is_binder_sort}
+use Rattle.sq_term.specs.Symbols.{Kind, function_number}
 use Rattle.sq_term.specs.Syntax.{TermTree, name, fun, macro, schema, diff, le, ts_eq, idx_eq, happens, all, some, find, TermTrees, nil, cons}
 use Rattle.sq_term.specs.TreeEquality.{is_same_sort}
-use Rattle.sq_system.specs.Typing.{Signature, has_count_at, is_index, are_indices, is_binder_sort, count_terms, argument_sort, has_sort, have_sorts}
-use Rattle.sq_ground.specs.Usable.{is_timestamp, speaks_of_time, speak_of_time}
+use Rattle.sq_typing.specs.Typing.{Signature, has_count_at, is_index, are_indices, argument_sort, has_sort, have_sorts}
+use Rattle.sq_system.specs.Usable.{is_timestamp, speaks_of_time, speak_of_time}
 use Rattle.sq_sequent.proofs.KeptSorts.{both_kept, application_kept}
 
 -- the signature with other actions
@@ -41,7 +44,7 @@ module _ (g : Signature) (actions : List ℕ) where
         both_kept (is_same_sort Message s) _ (is_same_sort Message s) _ (λ q. q)
         (both_kept (has_count_at g.names k (length is)) (are_indices g bs is) (has_count_at g.names k (length is)) (are_indices h bs is) (λ q. q) (indices_there bs is)) e
     timeless_sort bs s (fun f is ts) n e =
-        application_kept g h s (length is) (count_terms ts) (length is) (count_terms ts) (slice_get g.funs f)
+        application_kept g h s (length is) (count_terms ts) (length is) (count_terms ts) (slice_get g.funs (function_number f))
         (are_indices g bs is) (have_sorts g bs f 0 ts) (are_indices h bs is) (have_sorts h bs f 0 ts) refl refl (indices_there bs is) (timeless_sorts bs f 0 ts n) e
     timeless_sort bs s (macro x t) n e = let z : true ≡ false = n in absurd (cc)
     timeless_sort bs s (schema k) n e = e
@@ -70,7 +73,7 @@ module _ (g : Signature) (actions : List ℕ) where
         (both_kept (has_sort g (replicate c Index ++ bs) Message a) (has_sort g bs Message b) (has_sort h (replicate c Index ++ bs) Message a) (has_sort h bs Message b)
         (timeless_sort (replicate c Index ++ bs) Message a (left_none (speaks_of_time a) _ rest)) (timeless_sort bs Message b (right_none (speaks_of_time a) _ rest)))) e
 
-    timeless_sorts : (bs : List Sort) (f k : ℕ) (ts : TermTrees) → speak_of_time ts ≡ false → have_sorts g bs f k ts ≡ true → have_sorts h bs f k ts ≡ true
+    timeless_sorts : (bs : List Sort) (f : Kind) (k : ℕ) (ts : TermTrees) → speak_of_time ts ≡ false → have_sorts g bs f k ts ≡ true → have_sorts h bs f k ts ≡ true
     timeless_sorts bs f k nil n e = refl
     timeless_sorts bs f k (cons t ts) n e =
         both_kept (has_sort g bs (argument_sort f k) t) (have_sorts g bs f (suc k) ts) (has_sort h bs (argument_sort f k) t) (have_sorts h bs f (suc k) ts)

@@ -1,6 +1,7 @@
--- The formula of an axiom or a lemma, with messages for its schema variables and on the sequent's side, may stand in the sequent.
-use Rattle.std.proofs.Common.{◌≡◌, ℕ, zero, suc, ◌+◌, ◌-◌, ◌<◌, refl, sym, ap, ◌∙◌, subst, List, [], ◌∷◌, map, length, get_or, None, Bool, true, false, cond, ◌&&◌, ◌||◌, not, nat_lt, nat_le, unwrap_or, arith}
-use Rattle.std.specs.Prelude.{◌==◌, slice_get}
+-- The formula of an axiom or a lemma, with messages for its schema variables and on the sequent's
+-- side, may stand in the sequent.
+use Rattle.std.proofs.Common.{◌≡◌, ℕ, zero, suc, ◌+◌, ◌-◌, ◌<◌, refl, sym, ap, ◌∙◌, subst, List, [], ◌∷◌, map, length, get_or, None, Bool, true, false, ◌&&◌, ◌||◌, not, nat_lt, nat_le, unwrap_or, arith}
+use Rattle.std.specs.Prelude.{◌==◌, slice_get, if◌then◌else◌}
 use Rattle.std.specs.List.{list_all}
 use Rattle.std.proofs.lemmas.Bool.{eqb-true}
 use Rattle.std.proofs.lemmas.Bool.Decides.{nat_tests}
@@ -13,26 +14,28 @@ use Rattle.sq_term.specs.declared.term.Side.TheVariants.{Left, Right, Both}
 use Rattle.sq_term.specs.Arguments.{ArgTree}
 use Rattle.sq_term.specs.Syntax.{bound, TermTree, name, fun, macro, schema, diff, le, ts_eq, idx_eq, happens, all, some, find, TermTrees, nil, cons}
 use Rattle.sq_term.proofs.BoolTests.{and_split, and_both}
-use Rattle.sq_system.specs.Environments.{EnvTree}
-use Rattle.sq_system.specs.Facts.{holds_diff, hold_diff}
-use Rattle.sq_system.specs.Sequents.{local}
-use Rattle.sq_system.specs.Typing.{Signature, has_sort_at, is_index, is_timestamp, has_sort}
-use Rattle.sq_system.specs.WellFormed.{signature_of, is_formula, is_local_formula}
+use Rattle.sq_typing.specs.Diffs.{holds_diff, hold_diff}
+use Rattle.sq_typing.specs.Standing.{of_side, suits}
+use Rattle.sq_typing.specs.Standing as typing
+use Rattle.sq_typing.specs.Typing.{Signature, has_sort_at, is_index, is_timestamp, has_sort}
 use Rattle.sq_subst.specs.Leaves.{Leaves, map_term, map_terms}
 use Rattle.sq_subst.specs.Projection.{projected}
 use Rattle.sq_subst.specs.Substitution.{index_or, time_or, substitution, instance_of}
-use Rattle.sq_ground.specs.Usable.{is_axiom, speaks_of_time, formula_of, statement_at, system_of}
-use Rattle.sq_sequent.specs.Standing.{suits_side, signature_for}
+use Rattle.sq_system.specs.Sequents.{SequentTree, trace, local, equiv, vars_of, body_of}
+use Rattle.sq_system.specs.Statements.{EnvTree, no_actions}
+use Rattle.sq_system.specs.Usable.{is_axiom, is_timeless_axiom, speaks_of_time, formula_of, statement_at, system_of, usable}
+use Rattle.sq_system.specs.WellFormed.{signature_of, subject_of}
+use Rattle.sq_sequent.specs.Rows.{IsOn}
 use Rattle.sq_sequent.specs.Uses.{instance_on}
 use Rattle.sq_sequent.proofs.ClosedSorts.{sorted-below}
 use Rattle.sq_sequent.proofs.KeptSorts.{with_variables, sort_kept}
-use Rattle.sq_sequent.proofs.Offers.{IsOffered, signature_at_start, AreStanding}
-use Rattle.sq_sequent.proofs.SideSorts.{side-formula}
+use Rattle.sq_sequent.proofs.Offers.{IsStated, signature_at_start}
+use Rattle.sq_sequent.proofs.SideSorts.{side-stands}
 use Rattle.sq_sequent.proofs.Timeless.{timeless_sort}
 
 -- ---- the sort of an instance
 
-no_outer : (b : Bool) (n : ℕ) → cond b (slice_get {X = ArgTree} [] n) None ≡ None
+no_outer : (b : Bool) (n : ℕ) → (if b then slice_get {X = ArgTree} [] n else None) ≡ None
 no_outer true n = refl
 no_outer false n = refl
 
@@ -124,37 +127,58 @@ instance_no_diff ms t h e = ap not (no_diff (substitution [] [] ms) (λ m k. non
 
 -- ---- the instance in the sequent
 
-all_first : (p q : TermTree → Bool) (ms : List TermTree) → list_all (λ t. p t && q t) ms ≡ true → list_all p ms ≡ true
+all_first : (p q : TermTree → Bool) (ms : List TermTree) → list_all (λ t. p t && q t) ms ≡ true
+    → list_all p ms ≡ true
 all_first p q [] h = refl
-all_first p q (m ∷ ms) h = let k = and_split (p m && q m) _ h in and_both (p m) (list_all p ms) (and_split (p m) (q m) k.0).0 (all_first p q ms k.1)
+all_first p q (m ∷ ms) h =
+    let k = and_split (p m && q m) _ h in
+    and_both (p m) (list_all p ms) (and_split (p m) (q m) k.0).0 (all_first p q ms k.1)
 
-all_second : (p q : TermTree → Bool) (ms : List TermTree) → list_all (λ t. p t && q t) ms ≡ true → list_all q ms ≡ true
+all_second : (p q : TermTree → Bool) (ms : List TermTree) → list_all (λ t. p t && q t) ms ≡ true
+    → list_all q ms ≡ true
 all_second p q [] h = refl
-all_second p q (m ∷ ms) h = let k = and_split (p m && q m) _ h in and_both (q m) (list_all q ms) (and_split (p m) (q m) k.0).1 (all_second p q ms k.1)
+all_second p q (m ∷ ms) h =
+    let k = and_split (p m && q m) _ h in
+    and_both (q m) (list_all q ms) (and_split (p m) (q m) k.0).1 (all_second p q ms k.1)
 
--- where the formula has a sort over no variables, its instance on a side may stand in a sequent of that side
-module _ (symbols : Signature) (n count : ℕ) (vars : List Sort) (ms : List TermTree) (many : length ms ≡ count) where
+-- where the formula has a sort over no variables, its instance on a side may stand in a sequent of that
+-- side
+module _ (symbols : Signature) (n count : ℕ) (vars : List Sort) (ms : List TermTree)
+    (many : length ms ≡ count) where
   abbrev there : Signature
   there = with_variables symbols n vars
 
   abbrev bare : Signature
   bare = with_variables symbols count []
 
-  on_one_side : (t : TermTree) → list_all (has_sort there [] Message) ms ≡ true → list_all (λ u. not (holds_diff u)) ms ≡ true
-      → (is_formula bare t && not (holds_diff t)) ≡ true → (is_formula there (instance_of [] ms t) && not (holds_diff (instance_of [] ms t))) ≡ true
-  on_one_side t sorted none h =
-      let k = and_split (is_formula bare t) (not (holds_diff t)) h in
-      and_both (is_formula there (instance_of [] ms t)) _ (instance_sort symbols n count vars ms many sorted Boolean t k.0) (instance_no_diff ms t none k.1)
+  abbrev Stands : Side → TermTree → Type 0
+  Stands side t = typing.may_stand there (of_side side) Boolean t ≡ true
 
-  pub instance_formula : (side : Side) (F : TermTree) → list_all (λ t. has_sort there [] Message t && suits_side side t) ms ≡ true → is_formula bare F ≡ true
-      → is_local_formula there side (instance_on side ms F) ≡ true
-  instance_formula Both F h e = instance_sort symbols n count vars ms many (all_first (has_sort there [] Message) (suits_side Both) ms h) Boolean F e
-  instance_formula Left F h e =
-      on_one_side (projected Left F) (all_first (has_sort there [] Message) (suits_side Left) ms h) (all_second (has_sort there [] Message) (suits_side Left) ms h)
-      (side-formula bare Left F e)
-  instance_formula Right F h e =
-      on_one_side (projected Right F) (all_first (has_sort there [] Message) (suits_side Right) ms h) (all_second (has_sort there [] Message) (suits_side Right) ms h)
-      (side-formula bare Right F e)
+  on_one_side : (side : Side) (t : TermTree) → list_all (has_sort there [] Message) ms ≡ true
+      → list_all (λ u. not (holds_diff u)) ms ≡ true
+      → (has_sort bare [] Boolean t && not (holds_diff t)) ≡ true
+      → (has_sort there [] Boolean (instance_of [] ms t) && not (holds_diff (instance_of [] ms t))) ≡ true
+  on_one_side side t sorted none h =
+      let k = and_split (has_sort bare [] Boolean t) (not (holds_diff t)) h in
+      and_both (has_sort there [] Boolean (instance_of [] ms t)) _
+      (instance_sort symbols n count vars ms many sorted Boolean t k.0) (instance_no_diff ms t none k.1)
+
+  instance_stands : (side : Side) (F : TermTree)
+      → list_all (typing.may_stand there (of_side side) Message) ms ≡ true
+      → has_sort bare [] Boolean F ≡ true → Stands side (instance_on side ms F)
+  instance_stands Both F h e =
+      and_both (has_sort there [] Boolean (instance_of [] ms F)) true
+      (instance_sort symbols n count vars ms many
+      (all_first (has_sort there [] Message) (suits (of_side Both)) ms h) Boolean F e) refl
+  instance_stands Left F h e =
+      on_one_side Left (projected Left F) (all_first (has_sort there [] Message) (suits (of_side Left)) ms h)
+      (all_second (has_sort there [] Message) (suits (of_side Left)) ms h)
+      (side-stands bare Left Boolean F (and_both (has_sort bare [] Boolean F) true e refl))
+  instance_stands Right F h e =
+      on_one_side Right (projected Right F)
+      (all_first (has_sort there [] Message) (suits (of_side Right)) ms h)
+      (all_second (has_sort there [] Message) (suits (of_side Right)) ms h)
+      (side-stands bare Right Boolean F (and_both (has_sort bare [] Boolean F) true e refl))
 
 -- ---- a formula that a goal may use is well-sorted in the goal's system
 
@@ -162,33 +186,57 @@ module _ (symbols : Signature) (n count : ℕ) (vars : List Sort) (ms : List Ter
 abbrev bare_signature : EnvTree → ℕ → ℕ → Signature
 bare_signature env goal count = signature_of env (system_of env goal) count []
 
-module _ (env : EnvTree) (goal k n : ℕ) (F : TermTree) (offer : IsOffered env goal k n F) where
+module _ (env : EnvTree) (goal k n : ℕ) (F : TermTree) (may : usable env goal k ≡ true)
+    (stated : IsStated env k n F) where
   abbrev count : ℕ
   count = length (statement_at env k).schemas
 
-  same_system : (statement_at env k).system ≡ (statement_at env goal).system → has_sort (bare_signature env goal count) [] Boolean F ≡ true
-  same_system e = subst (λ j. has_sort (signature_of env (get_or env.systems j []) count []) [] Boolean F ≡ true) e offer.sorted
+  same_system : (statement_at env k).system ≡ (statement_at env goal).system
+      → has_sort (bare_signature env goal count) [] Boolean F ≡ true
+  same_system e =
+      subst
+      (λ j. has_sort (signature_of env (get_or env.systems j no_actions) count []) [] Boolean F ≡ true)
+      e stated.sorted
 
-  timeless : cond (speaks_of_time (formula_of (statement_at env k).start)) false true ≡ true → has_sort (bare_signature env goal count) [] Boolean F ≡ true
+  timeless : not (speaks_of_time (formula_of (statement_at env k).start)) ≡ true
+      → has_sort (bare_signature env goal count) [] Boolean F ≡ true
   timeless e =
-      timeless_sort (signature_at_start env k) (map (λ a. a.arity) (system_of env goal)) [] Boolean F
-      (not_so (speaks_of_time F) (ap (λ s. cond (speaks_of_time (formula_of s)) false true) (sym offer.starts) ∙ e)) offer.sorted
+      timeless_sort (signature_at_start env k) (map (λ a. a.arity) (system_of env goal).actions) [] Boolean F
+      (not_so (speaks_of_time F) (ap (λ s. not (speaks_of_time (formula_of s))) (sym stated.starts) ∙ e))
+      stated.sorted
     where
-      not_so : (b : Bool) → cond b false true ≡ true → b ≡ false
+      not_so : (b : Bool) → not b ≡ true → b ≡ false
       not_so true i = cc
       not_so false i = refl
 
-  pub sorted_for_goal : has_sort (bare_signature env goal count) [] Boolean F ≡ true
-  sorted_for_goal = go ((statement_at env k).system == (statement_at env goal).system) refl (and_split (nat_lt k goal) _ offer.usable).1
+  sorted_for_goal : has_sort (bare_signature env goal count) [] Boolean F ≡ true
+  sorted_for_goal =
+      go ((statement_at env k).system == (statement_at env goal).system) refl
+      (and_split (nat_lt k goal) _ may).1
     where
       go : (b : Bool) → ((statement_at env k).system == (statement_at env goal).system) ≡ b
-          → (b || (is_axiom (statement_at env k).kind && cond (speaks_of_time (formula_of (statement_at env k).start)) false true)) ≡ true
+          → (b || is_timeless_axiom (statement_at env k)) ≡ true
           → has_sort (bare_signature env goal count) [] Boolean F ≡ true
-      go true q h = same_system (eqb-true (statement_at env k).system (statement_at env goal).system q)
+      go true q h =
+          same_system (eqb-true (statement_at env k).system (statement_at env goal).system q)
       go false q h = timeless (and_split (is_axiom (statement_at env k).kind) _ h).1
 
   -- its instance may stand in a local sequent of the goal
-  pub use_stands : (side : Side) (vars : List Sort) (H : List TermTree) (c : TermTree) (ms : List TermTree) → AreStanding env goal (local side vars H c) ms → length ms ≡ n
-      → is_local_formula (signature_for env goal vars) side (instance_on side ms F) ≡ true
-  use_stands side vars H c ms h many =
-      instance_formula (bare_signature env goal count) (length (statement_at env goal).schemas) count vars ms (many ∙ offer.count) side F h sorted_for_goal
+  pub use_stands : (s : SequentTree) (side : Side) (ms : List TermTree) → IsOn (body_of s) side
+      → list_all
+      (typing.may_stand
+      (signature_of env (system_of env goal) (length (statement_at env goal).schemas) (vars_of s))
+      (subject_of (body_of s)) Message) ms ≡ true
+      → length ms ≡ n
+      → typing.may_stand
+      (signature_of env (system_of env goal) (length (statement_at env goal).schemas) (vars_of s))
+      (subject_of (body_of s)) Boolean (instance_on side ms F) ≡ true
+  use_stands (local own vars H c) side ms e h many =
+      let schemas : ℕ = length (statement_at env goal).schemas in
+      subst
+      (λ q. typing.may_stand (signature_of env (system_of env goal) schemas vars) (of_side own) Boolean
+      (instance_on q ms F) ≡ true) e
+      (instance_stands (bare_signature env goal count) schemas count vars ms (many ∙ stated.count) own F
+      h sorted_for_goal)
+  use_stands (trace vars H c) side ms e h many = absurd e
+  use_stands (equiv vars H known items) side ms e h many = absurd e

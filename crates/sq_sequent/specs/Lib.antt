@@ -1,11 +1,15 @@
+pub mod Faults
+pub mod Shapes
+pub mod Site
 pub mod Views
 pub mod Premises
 pub mod Places
-pub mod Scopes
+pub mod Statements
 pub mod Standing
 pub mod Sides
 pub mod Facts
 pub mod Uses
 pub mod Rewriting
 pub mod Logic
-pub mod Soundness
+pub mod Rows
+pub mod Laws

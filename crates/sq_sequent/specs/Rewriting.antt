@@ -1,12 +1,13 @@
 -- Rewriting by a hypothesis that is an equation or an equivalence.
-use Rattle.std.specs.Prelude.{ℕ, List, [], ◌∷◌, map, ◌==◌, ◌&&◌, Bool, cond, Option, Some, None, option_map, slice_set}
+use Rattle.std.specs.Prelude.{ℕ, List, [], ◌∷◌, map, ◌==◌, ◌&&◌, Bool, if◌then◌else◌, Option, Some, None, option_map, slice_set}
 use Rattle.std.specs.List.{list_all}
 use Rattle.sq_term.specs.declared.term.Idx.{Idx}
-use Rattle.sq_term.specs.Symbols.{conjunction, implication, function_number}
-use Rattle.sq_term.specs.Syntax.{TsTree, TermTree}
+use Rattle.sq_term.specs.Formulas.{equal, both, implies}
+use Rattle.sq_system.specs.Limits.{most_nodes}
+use Rattle.sq_term.specs.Syntax.{TsTree, TermTree, ts_eq, idx_eq}
 use Rattle.sq_term.specs.TreeEquality.{is_same_tree}
 use Rattle.sq_term.specs.View.{ts_tree, term_tree}
-use Rattle.sq_system.specs.Sequents.{Item, item, SequentTree, trace, local, equiv}
+use Rattle.sq_system.specs.Sequents.{Item, item, Body, trace_body, local_body, equiv_body, SequentTree, trace, local, equiv, hyps_of, body_of}
 use Rattle.sq_subst.specs.Renaming.{idx_replaced}
 use Rattle.sq_subst.specs.Replacement.{ts_replaced, term_replaced}
 use Rattle.sq_subst.specs.Room.{fits}
@@ -16,7 +17,7 @@ use Rattle.sq_sequent.specs.declared.step.Dir.{Dir}
 use Rattle.sq_sequent.specs.declared.step.Dir.TheVariants.{Forward, Backward}
 use Rattle.sq_sequent.specs.declared.step.Target.{Target}
 use Rattle.sq_sequent.specs.declared.step.Target.TheVariants as target
-use Rattle.sq_sequent.specs.Views.{Two, no_two, two, as_binary, Equation, no_equation, of_messages, of_times, of_indices, as_equation, hyps_of, goal_of, hyp_of}
+use Rattle.sq_sequent.specs.Views.{goal_of, hyp_of}
 use Rattle.sq_sequent.specs.Premises.{asking, with_hyps}
 
 -- what is replaced, and by what
@@ -33,37 +34,24 @@ rewriting_tree (by.Indices i j) = index_by i j
 
 -- ---- what a hypothesis rewrites
 
-abbrev pub by_equation : Equation → Option Rewriting
-by_equation no_equation = None
-by_equation (of_messages a b) = Some (term_by a b)
-by_equation (of_times a b) = Some (time_by a b)
-by_equation (of_indices i j) = Some (index_by i j)
+-- an equation
+unfoldable pub by_equation : TermTree → Option Rewriting
+by_equation (equal a b) = Some (term_by a b)
+by_equation (ts_eq a b) = Some (time_by a b)
+by_equation (idx_eq i j) = Some (index_by i j)
+by_equation _ = None
 
-abbrev pub by_equivalence : Two → Option Rewriting
-by_equivalence no_two = None
-by_equivalence (two a b) = Some (term_by a b)
-
-abbrev pub same_halves : Two → Two → Two
-same_halves (two a b) (two c d) = cond (is_same_tree a d && is_same_tree b c) (two a b) no_two
-same_halves _ _ = no_two
-
--- a and b, where these are `a => b` and `b => a`
-abbrev pub halves : TermTree → TermTree → Two
-halves p q = same_halves (as_binary (function_number implication) p) (as_binary (function_number implication) q)
-
-abbrev pub halves_of : Two → Two
-halves_of no_two = no_two
-halves_of (two p q) = halves p q
-
--- a and b of `(a => b) && (b => a)`
-unfoldable pub as_equivalence : TermTree → Two
-as_equivalence t = halves_of (as_binary (function_number conjunction) t)
+-- `(a => b) && (b => a)`
+unfoldable pub by_equivalence : TermTree → Option Rewriting
+by_equivalence (both (implies a b) (implies c d)) =
+    if is_same_tree a d && is_same_tree b c then Some (term_by a b) else None
+by_equivalence _ = None
 
 -- an equivalence of formulas rewrites in a local sequent alone
-abbrev pub equivalence_in : SequentTree → TermTree → Two
-equivalence_in (trace vars hyps goal) t = no_two
-equivalence_in (local side vars hyps goal) t = as_equivalence t
-equivalence_in (equiv vars hyps known items) t = no_two
+abbrev pub equivalence_in : Body → TermTree → Option Rewriting
+equivalence_in (trace_body goal) t = None
+equivalence_in (local_body side goal) t = by_equivalence t
+equivalence_in (equiv_body known items) t = None
 
 abbrev pub first_rewriting : Option Rewriting → Option Rewriting → Option Rewriting
 first_rewriting (Some r) q = Some r
@@ -71,7 +59,7 @@ first_rewriting None q = q
 
 -- the left side by the right one
 abbrev pub read_in : SequentTree → TermTree → Option Rewriting
-read_in s t = first_rewriting (by_equation (as_equation t)) (by_equivalence (equivalence_in s t))
+read_in s t = first_rewriting (by_equation t) (equivalence_in (body_of s) t)
 
 abbrev pub turned : Dir → Rewriting → Rewriting
 turned Forward r = r
@@ -96,7 +84,7 @@ abbrev pub item_rewritten : Rewriting → Item → Item
 item_rewritten r (item a b) = item (rewritten r a) (rewritten r b)
 
 abbrev pub item_fits : Rewriting → Item → Bool
-item_fits r (item a b) = fits 8388608 (rewritten r a) && fits 8388608 (rewritten r b)
+item_fits r (item a b) = fits most_nodes (rewritten r a) && fits most_nodes (rewritten r b)
 
 abbrev pub items_fit : Rewriting → List Item → Bool
 items_fit r items = list_all (item_fits r) items
@@ -112,13 +100,14 @@ hyp_rewritten s k r (Some t) = Some (with_hyps (slice_set (hyps_of s) k (rewritt
 abbrev pub items_rewritten : SequentTree → Rewriting → Option (List SequentTree)
 items_rewritten (trace vars hyps goal) r = None
 items_rewritten (local side vars hyps goal) r = None
-items_rewritten (equiv vars hyps known items) r = Some (equiv vars hyps known (map (item_rewritten r) items) ∷ [])
+items_rewritten (equiv vars hyps known items) r =
+    Some (equiv vars hyps known (map (item_rewritten r) items) ∷ [])
 
 -- the goal, the items, or another hypothesis than h
 abbrev pub rewriting_at : SequentTree → ℕ → Target → Rewriting → Option (List SequentTree)
 rewriting_at s h target.Goal r = goal_rewritten s r (goal_of s)
 rewriting_at s h target.Items r = items_rewritten s r
-rewriting_at s h (target.Hyp k) r = cond (k == h) None (hyp_rewritten s k r (hyp_of s k))
+rewriting_at s h (target.Hyp k) r = if k == h then None else hyp_rewritten s k r (hyp_of s k)
 
 -- rew: hypothesis h is an equation, or in a local sequent an equivalence
 abbrev pub rew_row : SequentTree → ℕ → Target → Option Rewriting → Option (List SequentTree)

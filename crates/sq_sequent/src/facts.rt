@@ -1,258 +1,75 @@
 // The facts of terms: what the calculus knows of a term by its shape.
-ghost use Rattle.std.specs.Prelude.{◌≡◌, ◌==◌, suc, IfOk, MatchOption, MatchResult, option_map};
+ghost use Rattle.std.specs.Prelude.{◌≡◌, true, [], IfOk, MatchResult, Some, option_map};
 ghost use Rattle.std.specs.Option.{option_copied};
-ghost use Rattle.sq_term.specs.Signatures as signatures;
-ghost use Rattle.sq_term.specs.Signatures.{function_role};
-ghost use Rattle.sq_term.specs.Symbols as kind;
-ghost use Rattle.sq_term.specs.Symbols.{kind_of, function_number};
+ghost use Rattle.sq_term.specs.Formulas as formula;
+ghost use Rattle.sq_system.specs.Limits.{most_nodes};
+ghost use Rattle.sq_term.specs.Symbols.{kind_of};
+ghost use Rattle.sq_term.specs.Syntax.{fun};
 ghost use Rattle.sq_term.specs.View.{term_tree, term_trees};
-ghost use Rattle.sq_subst.specs.Room.{fits as fits_in};
-ghost use Rattle.sq_system.specs.Environments.{env_tree};
-ghost use Rattle.sq_system.specs.Sequents.{sequent_tree};
-ghost use Rattle.sq_ground.specs.Rules.{is_signature as is_the_signature};
+ghost use Rattle.sq_subst.specs.Room.{fits};
 ghost use Rattle.sq_sequent.specs.Facts as spec;
-ghost use Rattle.sq_sequent.specs.Facts.{no_three, three, three_of, IsFactFault};
-ghost use Rattle.sq_sequent.specs.Places.{term_at as the_term_at};
-ghost use Rattle.sq_sequent.specs.Premises.{conjunction, implication, negation as negated, equality, equivalence as equivalent};
+ghost use Rattle.sq_sequent.specs.Facts.{IsFactFault};
+ghost use Rattle.sq_sequent.specs.Places as places;
 ghost use Rattle.sq_sequent.specs.Sides.{IsPastLimits};
-ghost use Rattle.sq_sequent.specs.Views as view;
-ghost use Rattle.sq_sequent.specs.Views.{no_two, two, one_of};
+ghost use Rattle.sq_sequent.specs.Shapes.{is_plain};
+ghost use Rattle.sq_sequent.specs.Site.{site_tree};
 
 use crate::fault::RuleFault;
-use crate::formulas::{binary, constant, equation, equivalence, negation, unary};
-use crate::limits::MAX_DEPTH;
+use crate::limits::MOST_DEPTH;
 use crate::places::term_at;
-use crate::standing::may_stand;
+use crate::shapes::{Shape, shape_of};
+use crate::signatures::{DECLARED, check_fact, is_check};
+use crate::site::Site;
 use crate::step::TermArg;
-use crate::views::{as_binary, as_unary, binary_in, is_same, only};
 use sq_base::{NoMemory, Sort};
-use sq_system::{Env, FunDecl, FunRole, Sequent};
-use sq_term::{Builtin, Idx, Term, copy};
-use sqlite_items::{Boxed, at};
+use sq_system::FunDecl;
+use sq_term::{Idx, Term, copy, formulas};
+use sqlite_items::Boxed;
 use std::alloc::Global;
 
-// Declared functions have their numbers from here on.
-const DECLARED: usize = 14;
-
-#[tactic(auto, using(crate::proofs::FactParts::three_of_rules))]
-fn three_terms(args: &[Term]) -> Option<(&Term, &Term, &Term)>
-    ensures { MatchOption result
-        (three_of (term_trees args.now) ≡ no_three)
-        (λ p. three_of (term_trees args.now) ≡ three (term_tree p.0.now) (term_tree p.1.now) (term_tree p.2.now)) }
+// The equation of copies of these terms.
+fn equation(alloc: Global, u: &Term, v: &Term) -> Result<Term, NoMemory>
+    ensures { IfOk result (λ t. term_tree t ≡ formula.equal (term_tree u.now) (term_tree v.now)) }
 {
-    match args {
-        [a, b, c] => Some((a, b, c)),
-        _ => None,
-    }
+    let u = copy(alloc, u)?;
+    let v = copy(alloc, v)?;
+    formulas::equal(alloc, u, v)
 }
 
 // ---- the conditional
 
-// `b => t = u`
-#[tactic(auto, using(sq_term::proofs::Views::tree_rules))]
-fn equal_where(alloc: Global, b: &Term, t: &Term, u: &Term) -> Result<Term, NoMemory>
-    ensures { IfOk result (λ f. term_tree f ≡ implication (term_tree b.now) (equality (term_tree t.now) (term_tree u.now))) }
+fn conditional_fact(alloc: Global, t: &Term, b: &Term, u: &Term, v: &Term) -> Result<Term, NoMemory>
+    ensures { IfOk result (λ f. term_tree f ≡ spec.conditional_fact (term_tree t.now)
+        (term_tree b.now) (term_tree u.now) (term_tree v.now)) }
 {
-    let b = copy(alloc, b)?;
+    let test = copy(alloc, b)?;
     let equal = equation(alloc, t, u)?;
-    binary(alloc, Builtin::Implies, b, equal)
-}
-
-// `not(b) => t = v`
-#[tactic(auto, using(sq_term::proofs::Views::tree_rules))]
-fn equal_unless(alloc: Global, b: &Term, t: &Term, v: &Term) -> Result<Term, NoMemory>
-    ensures { IfOk result (λ f. term_tree f ≡ implication (negated (term_tree b.now)) (equality (term_tree t.now) (term_tree v.now))) }
-{
-    let denied = negation(alloc, b)?;
+    let when_true = formulas::implies(alloc, test, equal)?;
+    let test = copy(alloc, b)?;
+    let denied = formulas::negation(alloc, test)?;
     let equal = equation(alloc, t, v)?;
-    binary(alloc, Builtin::Implies, denied, equal)
-}
-
-#[tactic(auto, using(sq_term::proofs::Views::tree_rules))]
-fn in_both_cases(alloc: Global, t: &Term, b: &Term, u: &Term, v: &Term) -> Result<Term, NoMemory>
-    ensures { IfOk result
-        (λ f. term_tree f ≡ conjunction (implication (term_tree b.now) (equality (term_tree t.now) (term_tree u.now)))
-        (implication (negated (term_tree b.now)) (equality (term_tree t.now) (term_tree v.now)))) }
-{
-    let when_true = equal_where(alloc, b, t, u)?;
-    let when_false = equal_unless(alloc, b, t, v)?;
-    binary(alloc, Builtin::And, when_true, when_false)
-}
-
-fn conditional_fact(alloc: Global, t: &Term, args: &[Term]) -> Result<Option<Term>, NoMemory>
-    ensures { IfOk result (λ f. option_map term_tree f ≡ spec.conditional_fact (term_tree t.now) (three_of (term_trees args.now))) }
-{
-    match three_terms(args) {
-        Some((b, u, v)) => Ok(Some(in_both_cases(alloc, t, b, u, v)?)),
-        None => Ok(None),
-    }
-}
-
-// ---- the parts of a pair
-
-fn pair_in(args: &[Term]) -> Option<(&Term, &Term)>
-    ensures { let seen = view.binary_in (function_number kind.pairing) (one_of (term_trees args.now)) in
-        MatchOption result (seen ≡ no_two) (λ p. seen ≡ two (term_tree p.0.now) (term_tree p.1.now)) }
-{
-    binary_in(Builtin::Pair.number(), only(args))
-}
-
-fn first_fact(alloc: Global, t: &Term, args: &[Term]) -> Result<Option<Term>, NoMemory>
-    ensures { IfOk result (λ f. option_map term_tree f ≡ spec.first_fact (term_tree t.now) (view.binary_in (function_number kind.pairing) (one_of (term_trees args.now)))) }
-{
-    match pair_in(args) {
-        Some((u, _)) => Ok(Some(equation(alloc, t, u)?)),
-        None => Ok(None),
-    }
-}
-
-fn second_fact(alloc: Global, t: &Term, args: &[Term]) -> Result<Option<Term>, NoMemory>
-    ensures { IfOk result (λ f. option_map term_tree f ≡ spec.second_fact (term_tree t.now) (view.binary_in (function_number kind.pairing) (one_of (term_trees args.now)))) }
-{
-    match pair_in(args) {
-        Some((_, v)) => Ok(Some(equation(alloc, t, v)?)),
-        None => Ok(None),
-    }
+    let when_false = formulas::implies(alloc, denied, equal)?;
+    formulas::both(alloc, when_true, when_false)
 }
 
 // ---- Booleans as messages
 
-#[tactic(auto, using(sq_term::proofs::Views::tree_rules))]
 fn is_true_message(alloc: Global, t: &Term) -> Result<Term, NoMemory>
-    ensures { IfOk result (λ f. term_tree f ≡ equality (term_tree t.now) spec.true_message) }
+    ensures { IfOk result
+        (λ f. term_tree f ≡ formula.equal (term_tree t.now) (formula.of_bool formula.truth)) }
 {
-    let truth = unary(alloc, Builtin::OfBool, constant(alloc, Builtin::True))?;
     let t = copy(alloc, t)?;
-    binary(alloc, Builtin::Eq, t, truth)
+    let truth = formulas::of_bool(alloc, formulas::truth(alloc))?;
+    formulas::equal(alloc, t, truth)
 }
 
-fn is_true_where(alloc: Global, t: &Term, b: &Term) -> Result<Term, NoMemory>
-    ensures { IfOk result (λ f. term_tree f ≡ equivalent (equality (term_tree t.now) spec.true_message) (term_tree b.now)) }
+fn boolean_fact(alloc: Global, t: &Term, b: &Term) -> Result<Term, NoMemory>
+    ensures { IfOk result
+        (λ f. term_tree f ≡ spec.boolean_fact (term_tree t.now) (term_tree b.now)) }
 {
     let is_true = is_true_message(alloc, t)?;
-    equivalence(alloc, &is_true, b)
-}
-
-fn boolean_fact(alloc: Global, t: &Term, args: &[Term]) -> Result<Option<Term>, NoMemory>
-    ensures { IfOk result (λ f. option_map term_tree f ≡ spec.boolean_fact (term_tree t.now) (one_of (term_trees args.now))) }
-{
-    match only(args) {
-        Some(b) => Ok(Some(is_true_where(alloc, t, b)?)),
-        None => Ok(None),
-    }
-}
-
-// ---- signatures
-
-// The role of the function with this number. The built-in ones are plain, and so is one that is not
-// there.
-#[tactic(auto, using(crate::proofs::FactParts::role_rules))]
-fn role_of(funs: &[FunDecl], function: usize) -> FunRole
-    ensures { result ≡ function_role funs.now function }
-{
-    if function < DECLARED {
-        FunRole::Plain
-    } else {
-        match at(funs, function) {
-            Some(d) => d.role,
-            None => FunRole::Plain,
-        }
-    }
-}
-
-fn is_sign(role: FunRole) -> bool
-    ensures { result ≡ signatures.is_sign role }
-{
-    matches!(role, FunRole::Sign)
-}
-
-fn is_check(role: FunRole) -> bool
-    ensures { result ≡ signatures.is_check role }
-{
-    matches!(role, FunRole::Check)
-}
-
-fn is_pk(role: FunRole) -> bool
-    ensures { result ≡ signatures.is_pk role }
-{
-    matches!(role, FunRole::Pk)
-}
-
-#[tactic(auto, using(crate::proofs::FactParts::signature_rules))]
-fn is_signature(funs: &[FunDecl], sign: u32) -> bool
-    ensures { result ≡ is_the_signature funs.now sign }
-{
-    let sign = sign as usize;
-    is_sign(role_of(funs, sign))
-        && is_check(role_of(funs, sign + 1))
-        && is_pk(role_of(funs, sign + 2))
-}
-
-// The argument of an application of the second function behind this one.
-#[tactic(auto, using(crate::proofs::FactParts::behind_rules), unfolding(crate::specs::Views::as_unary))]
-fn public_key(sign: u32, p: &Term) -> Option<&Term>
-    ensures { option_map term_tree (option_copied result) ≡ view.as_unary (suc (suc sign)) (term_tree p.now) }
-{
-    match p {
-        Term::Fun(f, _, _) => {
-            if *f >= 2 && *f - 2 == sign {
-                as_unary(*f, p)
-            } else {
-                None
-            }
-        }
-        _ => None,
-    }
-}
-
-fn accepts(sign: u32, m: &Term, s: &Term, p: &Term) -> bool
-    ensures { result ≡ spec.accepts (term_tree m.now) (view.as_binary sign (term_tree s.now)) (view.as_unary (suc (suc sign)) (term_tree p.now)) }
-{
-    match as_binary(sign, s) {
-        Some((n, k)) => match public_key(sign, p) {
-            Some(l) => is_same(m, n) && is_same(k, l),
-            None => false,
-        },
-        None => false,
-    }
-}
-
-fn signature_fact(
-    alloc: Global,
-    funs: &[FunDecl],
-    sign: u32,
-    t: &Term,
-    args: &[Term],
-) -> Result<Option<Term>, NoMemory>
-    ensures { IfOk result (λ f. option_map term_tree f ≡ spec.signature_fact funs.now sign (term_tree t.now) (three_of (term_trees args.now))) }
-{
-    match three_terms(args) {
-        Some((m, s, p)) => {
-            if is_signature(funs, sign) && accepts(sign, m, s, p) {
-                Ok(Some(copy(alloc, t)?))
-            } else {
-                Ok(None)
-            }
-        }
-        None => Ok(None),
-    }
-}
-
-#[tactic(auto, using(crate::proofs::FactParts::check_rules))]
-fn check_fact(
-    alloc: Global,
-    funs: &[FunDecl],
-    check: u32,
-    t: &Term,
-    args: &[Term],
-) -> Result<Option<Term>, NoMemory>
-    ensures { IfOk result (λ f. option_map term_tree f ≡ spec.check_fact funs.now check (term_tree t.now) (three_of (term_trees args.now))) }
-{
-    if check == 0 {
-        Ok(None)
-    } else {
-        signature_fact(alloc, funs, check - 1, t, args)
-    }
+    let b = copy(alloc, b)?;
+    formulas::equivalent(alloc, is_true, b)
 }
 
 // ---- find
@@ -279,54 +96,51 @@ fn some_indices(alloc: Global, count: u32, body: Term) -> Result<Term, NoMemory>
     Ok(whole)
 }
 
-// `F && t = u`
-#[tactic(auto, using(sq_term::proofs::Views::tree_rules))]
-fn equal_and(alloc: Global, test: &Term, t: &Term, found: &Term) -> Result<Term, NoMemory>
-    ensures { IfOk result (λ f. term_tree f ≡ conjunction (term_tree test.now) (equality (term_tree t.now) (term_tree found.now))) }
-{
-    let test = copy(alloc, test)?;
-    let equal = equation(alloc, t, found)?;
-    binary(alloc, Builtin::And, test, equal)
-}
-
+// Some indices pass the test, and the find is what is found there.
 fn some_pass(
     alloc: Global,
+    t: &Term,
     count: u32,
     test: &Term,
-    t: &Term,
     found: &Term,
 ) -> Result<Term, NoMemory>
-    ensures { IfOk result (λ f. term_tree f ≡ spec.some_indices count (conjunction (term_tree test.now) (equality (term_tree t.now) (term_tree found.now)))) }
+    ensures { IfOk result (λ f. term_tree f ≡ spec.some_indices count
+        (formula.both (term_tree test.now) (formula.equal (term_tree t.now) (term_tree found.now)))) }
 {
-    let passes = equal_and(alloc, test, t, found)?;
+    let passes = copy(alloc, test)?;
+    let equal = equation(alloc, t, found)?;
+    let passes = formulas::both(alloc, passes, equal)?;
     some_indices(alloc, count, passes)
 }
 
 fn all_fail(alloc: Global, count: u32, test: &Term) -> Result<Term, NoMemory>
-    ensures { IfOk result (λ f. term_tree f ≡ spec.all_indices count (negated (term_tree test.now))) }
+    ensures { IfOk result
+        (λ f. term_tree f ≡ spec.all_indices count (formula.negation (term_tree test.now))) }
 {
-    let fails = negation(alloc, test)?;
+    let fails = copy(alloc, test)?;
+    let fails = formulas::negation(alloc, fails)?;
     all_indices(alloc, count, fails)
 }
 
-#[tactic(auto, using(sq_term::proofs::Views::tree_rules))]
+// No index passes the test, and the find is the other term.
 fn none_passes(
     alloc: Global,
+    t: &Term,
     count: u32,
     test: &Term,
-    t: &Term,
     other: &Term,
 ) -> Result<Term, NoMemory>
     ensures { IfOk result
-        (λ f. term_tree f ≡ conjunction (spec.all_indices count (negated (term_tree test.now))) (equality (term_tree t.now) (term_tree other.now))) }
+        (λ f. term_tree f ≡ formula.both
+        (spec.all_indices count (formula.negation (term_tree test.now)))
+        (formula.equal (term_tree t.now) (term_tree other.now))) }
 {
     let fail = all_fail(alloc, count, test)?;
     let equal = equation(alloc, t, other)?;
-    binary(alloc, Builtin::And, fail, equal)
+    formulas::both(alloc, fail, equal)
 }
 
 // What a find of so many indices is.
-#[tactic(auto, using(sq_term::proofs::Views::tree_rules))]
 fn first_that_passes(
     alloc: Global,
     t: &Term,
@@ -335,12 +149,12 @@ fn first_that_passes(
     found: &Term,
     other: &Term,
 ) -> Result<Term, NoMemory>
-    ensures { IfOk result
-        (λ f. term_tree f ≡ spec.find_fact (term_tree t.now) count (term_tree test.now) (term_tree found.now) (term_tree other.now)) }
+    ensures { IfOk result (λ f. term_tree f ≡ spec.find_fact (term_tree t.now) count
+        (term_tree test.now) (term_tree found.now) (term_tree other.now)) }
 {
-    let some = some_pass(alloc, count, test, t, found)?;
-    let none = none_passes(alloc, count, test, t, other)?;
-    binary(alloc, Builtin::Or, some, none)
+    let some = some_pass(alloc, t, count, test, found)?;
+    let none = none_passes(alloc, t, count, test, other)?;
+    formulas::either(alloc, some, none)
 }
 
 // A quantifier for each index: where they are past the depth of a sequent, so is the fact, which is
@@ -354,42 +168,20 @@ fn find_fact(
     found: &Term,
     other: &Term,
 ) -> Result<Term, RuleFault>
-    ensures { let there = spec.find_fact (term_tree t.now) count (term_tree test.now) (term_tree found.now) (term_tree other.now) in
-        MatchResult result (λ f. term_tree f ≡ there) (λ e. IsPastLimits e (fits_in 8388608 there)) }
+    ensures { let there = spec.find_fact (term_tree t.now) count (term_tree test.now)
+        (term_tree found.now) (term_tree other.now) in
+        MatchResult result (λ f. term_tree f ≡ there) (λ e. IsPastLimits e (fits most_nodes there)) }
 {
-    if count as usize > MAX_DEPTH {
+    if count as usize > MOST_DEPTH {
         Err(RuleFault::TooLarge)
     } else {
-        match first_that_passes(alloc, t, count, test, found, other) {
-            Ok(fact) => Ok(fact),
-            Err(NoMemory) => Err(RuleFault::NoMemory),
-        }
+        Ok(first_that_passes(alloc, t, count, test, found, other)?)
     }
 }
 
 // ---- any term
 
-#[tactic(auto, using(crate::proofs::FactParts::kind_rules))]
-fn fact_by_kind(
-    alloc: Global,
-    funs: &[FunDecl],
-    function: u32,
-    args: &[Term],
-    t: &Term,
-) -> Result<Option<Term>, NoMemory>
-    ensures { IfOk result
-        (λ f. option_map term_tree f ≡ spec.fact_by_kind funs.now (kind_of function) function (term_trees args.now) (term_tree t.now)) }
-{
-    match Builtin::of(function) {
-        Some(Builtin::Ite) => conditional_fact(alloc, t, args),
-        Some(Builtin::Fst) => first_fact(alloc, t, args),
-        Some(Builtin::Snd) => second_fact(alloc, t, args),
-        Some(Builtin::OfBool) => boolean_fact(alloc, t, args),
-        Some(_) => Ok(None),
-        None => check_fact(alloc, funs, function, t, args),
-    }
-}
-
+// Of an application of a declared function, and of one without a shape.
 #[tactic(auto, using(crate::proofs::FactParts::application_rules))]
 fn application_fact(
     alloc: Global,
@@ -399,32 +191,84 @@ fn application_fact(
     args: &[Term],
     t: &Term,
 ) -> Result<Option<Term>, NoMemory>
-    ensures { IfOk result
-        (λ f. option_map term_tree f ≡ spec.fact_of_application funs.now function indices.now (term_trees args.now) (term_tree t.now)) }
+    requires { is_plain (Some (fun (kind_of function) indices.now (term_trees args.now))) ≡ true }
+    ensures { IfOk result (λ f. option_map term_tree f ≡ spec.fact_by_shape funs.now
+        (term_tree t.now) (fun (kind_of function) indices.now (term_trees args.now))) }
 {
-    if indices.is_empty() {
-        fact_by_kind(alloc, funs, function, args, t)
+    if function < DECLARED {
+        Ok(None)
+    } else if indices.is_empty() {
+        check_fact(alloc, funs, function - DECLARED, t, args)
     } else {
         Ok(None)
     }
 }
 
-// The fact of a term, where it has one of the shapes. TooLarge comes where no sequent may hold it.
-#[tactic(auto, using(crate::proofs::FactParts::fault_rules, sq_term::proofs::Views::open_rules), unfolding(crate::specs::Facts::fact_of))]
-fn fact_of(alloc: Global, funs: &[FunDecl], t: &Term) -> Result<Option<Term>, RuleFault>
-    ensures { let there = spec.fact_of funs.now (term_tree t.now) in
+// Of a term without a shape.
+#[tactic(auto, using(crate::proofs::FactReads::plain_rules, crate::proofs::FactParts::fault_rules))]
+fn plain_fact(alloc: Global, funs: &[FunDecl], t: &Term) -> Result<Option<Term>, RuleFault>
+    requires { is_plain (Some (term_tree t.now)) ≡ true }
+    ensures { let there = spec.fact_by_shape funs.now (term_tree t.now) (term_tree t.now) in
         MatchResult result (λ f. option_map term_tree f ≡ there) (λ e. IsFactFault e there) }
 {
     match t {
         Term::Fun(f, indices, args) => {
             Ok(application_fact(alloc, funs, *f, indices.as_slice(), args.as_slice(), t)?)
         }
-        Term::Find(count, test, found, other) => {
-            match find_fact(alloc, t, *count, test.get(), found.get(), other.get()) {
-                Ok(fact) => Ok(Some(fact)),
-                Err(fault) => Err(fault),
-            }
-        }
+        Term::Find(count, test, found, other) => Ok(Some(find_fact(
+            alloc,
+            t,
+            *count,
+            test.get(),
+            found.get(),
+            other.get(),
+        )?)),
+        Term::Name(_, _)
+        | Term::Macro(_, _)
+        | Term::Schema(_)
+        | Term::Diff(_, _)
+        | Term::Le(_, _)
+        | Term::TsEq(_, _)
+        | Term::IdxEq(_, _)
+        | Term::Happens(_)
+        | Term::Forall(_, _)
+        | Term::Exists(_, _) => Ok(None),
+    }
+}
+
+// The left or the right part of a pair, where the term is one.
+#[tactic(auto, using(crate::proofs::FactReads::pair_rules))]
+fn part_of(pair: &Term, left: bool) -> Option<&Term>
+    ensures { option_map term_tree (option_copied result) ≡ spec.part_of left (term_tree pair.now) }
+{
+    match shape_of(Some(pair)) {
+        Shape::Pair(u, v) => { if left { Some(u) } else { Some(v) } }
+        _ => None,
+    }
+}
+
+fn part_fact(alloc: Global, t: &Term, part: Option<&Term>) -> Result<Option<Term>, NoMemory>
+    ensures { IfOk result (λ f. option_map term_tree f
+        ≡ spec.part_fact (term_tree t.now) (option_map term_tree (option_copied part.entry))) }
+{
+    match part {
+        Some(u) => Ok(Some(equation(alloc, t, u)?)),
+        None => Ok(None),
+    }
+}
+
+// The fact of a term, where it has one of the shapes. TooLarge comes where no sequent may hold it.
+#[tactic(auto, using(crate::proofs::FactReads::shape_rules, crate::proofs::FactParts::fault_rules))]
+fn fact_of(alloc: Global, funs: &[FunDecl], t: &Term) -> Result<Option<Term>, RuleFault>
+    ensures { let there = spec.fact_of funs.now (term_tree t.now) in
+        MatchResult result (λ f. option_map term_tree f ≡ there) (λ e. IsFactFault e there) }
+{
+    match shape_of(Some(t)) {
+        Shape::Conditional(b, u, v) => Ok(Some(conditional_fact(alloc, t, b, u, v)?)),
+        Shape::First(pair) => Ok(part_fact(alloc, t, part_of(pair, true))?),
+        Shape::Second(pair) => Ok(part_fact(alloc, t, part_of(pair, false))?),
+        Shape::OfBool(b) => Ok(Some(boolean_fact(alloc, t, b)?)),
+        Shape::Other => plain_fact(alloc, funs, t),
         _ => Ok(None),
     }
 }
@@ -435,7 +279,7 @@ fn fact_sort(funs: &[FunDecl], t: &Term) -> Sort
 {
     match t {
         Term::Fun(f, _, _) => {
-            if is_check(role_of(funs, *f as usize)) {
+            if is_check(funs, *f) {
                 Sort::Boolean
             } else {
                 Sort::Message
@@ -447,20 +291,15 @@ fn fact_sort(funs: &[FunDecl], t: &Term) -> Sort
 
 /// The fact of an argument's term, where this may stand in the sequent and has one of the shapes.
 /// TooLarge comes where no sequent may hold the fact.
-pub fn fact_in(
-    alloc: Global,
-    env: &Env,
-    goal: u32,
-    s: &Sequent,
-    arg: &TermArg,
-) -> Result<Option<Term>, RuleFault>
-    ensures { let there = spec.standing_fact (env_tree env.now) goal (sequent_tree s.now) (the_term_at (sequent_tree s.now) arg.now) in
+pub fn fact_in(alloc: Global, at: &Site, arg: &TermArg) -> Result<Option<Term>, RuleFault>
+    ensures { let here = site_tree at.now in
+        let there = spec.standing_fact here (places.term_at here.sequent arg.now) in
         MatchResult result (λ f. option_map term_tree f ≡ there) (λ e. IsFactFault e there) }
 {
-    match term_at(s, arg) {
+    match term_at(at.sequent, arg) {
         Some(t) => {
-            let funs = env.funs.as_slice();
-            if may_stand(env, goal, s, fact_sort(funs, t), t) {
+            let funs = at.env.funs.as_slice();
+            if at.may_stand(fact_sort(funs, t), t) {
                 fact_of(alloc, funs, t)
             } else {
                 Ok(None)

@@ -1,6 +1,6 @@
 // Why a step has no premises, and the occurrences that such a reason names.
 use sq_base::{NoMemory, Seq, Sort};
-use sq_term::{Idx, Term};
+use sq_term::{Idx, SizeFault, Term};
 
 /// How a name occurs as a key: under which hash or signature function, with which message, and
 /// whether that application is itself a side of an equation.
@@ -52,5 +52,19 @@ impl From<NoMemory> for RuleFault {
 
     fn from(_: NoMemory) -> Self {
         RuleFault::NoMemory
+    }
+}
+
+impl From<SizeFault> for RuleFault {
+    ghost use Rattle.std.specs.Prelude.{◌≡◌};
+    ghost use Rattle.sq_sequent.specs.Faults.{fault_of};
+
+    ghost from_gives = { λ f e. e ≡ fault_of f };
+
+    fn from(fault: SizeFault) -> Self {
+        match fault {
+            SizeFault::TooLarge => RuleFault::TooLarge,
+            SizeFault::NoMemory => RuleFault::NoMemory,
+        }
     }
 }

@@ -12,10 +12,10 @@ use sq_system::{Both, Sequent};
 use sq_term::{Term, depth, size};
 
 /// The most nodes of a sequent inside a derivation.
-pub const MAX_NODES: usize = 8_388_608;
+pub const MOST_NODES: usize = 8_388_608;
 
 /// The greatest depth of a term of a sequent inside a derivation.
-pub const MAX_DEPTH: usize = 1_024;
+pub const MOST_DEPTH: usize = 1_024;
 
 fn all_size(terms: &[Term]) -> usize
     ensures { result ≡ min (spec.all_size (map term_tree terms.now)) 18446744073709551615 }
@@ -77,7 +77,8 @@ fn known_depth(known: &[Seq<Both>]) -> usize
     most
 }
 
-fn sequent_size(s: &Sequent) -> usize
+/// The nodes of all terms of the sequent. The count stops at the greatest `usize`.
+pub fn sequent_size(s: &Sequent) -> usize
     ensures { result ≡ min (spec.sequent_size (sequent_tree s.now)) 18446744073709551615 }
 {
     match s {
@@ -115,11 +116,11 @@ fn sequent_depth(s: &Sequent) -> usize
     }
 }
 
-/// Whether a sequent may stand in a derivation: at most `MAX_NODES` nodes and depth `MAX_DEPTH`.
+/// Whether a sequent may stand in a derivation: at most `MOST_NODES` nodes and depth `MOST_DEPTH`.
 pub fn fits(s: &Sequent) -> bool
     ensures { result ≡ spec.fits (sequent_tree s.now) }
 {
-    sequent_size(s) <= MAX_NODES && sequent_depth(s) <= MAX_DEPTH
+    sequent_size(s) <= MOST_NODES && sequent_depth(s) <= MOST_DEPTH
 }
 
 fn all_fit(premises: &[Sequent]) -> bool

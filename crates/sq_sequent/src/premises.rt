@@ -8,11 +8,10 @@ ghost use Rattle.sq_sequent.specs.Premises.{without};
 ghost use Rattle.sq_sequent.specs.Logic.{sequent_trees, within_limits};
 
 use crate::fault::RuleFault;
-use crate::formulas::constant;
 use crate::limits::judge;
 use sq_base::{NoMemory, Seq, Sort};
 use sq_system::{Both, Sequent};
-use sq_term::{Builtin, Term, copy, is_pure};
+use sq_term::{Term, copy, formulas, is_pure};
 use std::alloc::Global;
 
 /// Equal sorts, in their order.
@@ -171,39 +170,6 @@ pub fn assuming(s: Sequent, hyp: Term) -> Result<Sequent, NoMemory>
     }
 }
 
-/// The sequent's hypotheses with a copy of this goal.
-pub fn asking_copy(alloc: Global, s: &Sequent, goal: &Term) -> Result<Sequent, NoMemory>
-    ensures { IfOk result (λ p. sequent_tree p ≡ spec.asking (sequent_tree s.now) (term_tree goal.now)) }
-{
-    let goal = copy(alloc, goal)?;
-    asking(alloc, s, goal)
-}
-
-/// A copy of the sequent with one more hypothesis.
-pub fn copy_assuming(alloc: Global, s: &Sequent, hyp: Term) -> Result<Sequent, NoMemory>
-    ensures { IfOk result (λ p. sequent_tree p ≡ spec.assuming (sequent_tree s.now) (term_tree hyp)) }
-{
-    let s = copy_sequent(alloc, s)?;
-    assuming(s, hyp)
-}
-
-/// A copy of the sequent with a copy of one more hypothesis.
-pub fn assuming_copy(alloc: Global, s: &Sequent, hyp: &Term) -> Result<Sequent, NoMemory>
-    ensures { IfOk result (λ p. sequent_tree p ≡ spec.assuming (sequent_tree s.now) (term_tree hyp.now)) }
-{
-    let hyp = copy(alloc, hyp)?;
-    let s = copy_sequent(alloc, s)?;
-    assuming(s, hyp)
-}
-
-/// The sequent with a copy of one more hypothesis.
-pub fn also_assuming(alloc: Global, s: Sequent, hyp: &Term) -> Result<Sequent, NoMemory>
-    ensures { IfOk result (λ p. sequent_tree p ≡ spec.assuming (sequent_tree s) (term_tree hyp.now)) }
-{
-    let hyp = copy(alloc, hyp)?;
-    assuming(s, hyp)
-}
-
 /// The sequent with these hypotheses.
 #[tactic(auto, unfolding(crate::specs::Premises::with_hyps))]
 pub fn with_hyps(alloc: Global, s: &Sequent, hyps: Seq<Term>) -> Result<Sequent, NoMemory>
@@ -271,7 +237,7 @@ pub fn pure_or_false(alloc: Global, t: &Term) -> Result<Term, NoMemory>
     if is_pure(t) {
         copy(alloc, t)
     } else {
-        Ok(constant(alloc, Builtin::False))
+        Ok(formulas::falsity(alloc))
     }
 }
 

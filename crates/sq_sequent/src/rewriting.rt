@@ -1,27 +1,30 @@
 // What a hypothesis rewrites, and what it makes of terms.
-ghost use Rattle.std.specs.Prelude.{◌≡◌, ◌<◌, length, IfOk, MatchOption, MatchResult, map, option_map, option_copied, slice_set};
+ghost use Rattle.std.specs.Prelude.{◌≡◌, ◌<◌, length, IfOk, MatchResult, map, option_map, option_copied, slice_set};
 ghost use Rattle.sq_base.specs.Gives.{Gives};
+ghost use Rattle.sq_term.specs.Formulas.{both};
+ghost use Rattle.sq_system.specs.Limits.{most_nodes};
 ghost use Rattle.sq_term.specs.View.{term_tree};
 ghost use Rattle.sq_term.specs.declared.term.SizeFault.TheVariants as size_fault;
 ghost use Rattle.sq_subst.specs.Room.{within};
 ghost use Rattle.sq_system.specs.Sequents.{item_of, sequent_tree, equiv};
-ghost use Rattle.sq_sequent.specs.Views as view;
-ghost use Rattle.sq_sequent.specs.Views.{no_two, two};
-ghost use Rattle.sq_sequent.specs.Premises as made;
+ghost use Rattle.sq_system.specs.Sequents as sequents;
+ghost use Rattle.sq_sequent.specs.Premises as premises;
 ghost use Rattle.sq_sequent.specs.Rewriting as spec;
-ghost use Rattle.sq_sequent.specs.Rewriting.{rewriting_tree, rewritten, item_rewritten, item_fits, items_fit, by_equation, halves};
+ghost use Rattle.sq_sequent.specs.Rewriting.{rewriting_tree, rewritten, item_rewritten, item_fits, items_fit};
 ghost use Rattle.sq_sequent.specs.Sides.{IsPastLimits};
 ghost use Rattle.sq_sequent.specs.Logic.{held};
 
+use crate::equality::is_same;
 use crate::fault::RuleFault;
-use crate::limits::MAX_NODES;
+use crate::limits::MOST_NODES;
 use crate::premises::{copy_known, copy_sorts, copy_terms, push_copies, with_hyps};
+use crate::shapes::{Shape, shape_of};
 use crate::step::Dir;
-use crate::views::{as_binary, hyps_of, is_same};
+use crate::views::hyps_of;
 use sq_base::{NoMemory, Seq, Sort};
 use sq_subst::{SizeFault, replace_idx, replace_term, replace_ts};
 use sq_system::{Both, Sequent};
-use sq_term::{Builtin, Idx, Term, Ts};
+use sq_term::{Idx, Term, Ts};
 use std::alloc::Global;
 
 /// What is replaced, and by what.
@@ -32,51 +35,46 @@ pub enum Rewriting<'a> {
     Indices(Idx, Idx),
 }
 
-#[tactic(auto, using(crate::proofs::Args::equation_rules), unfolding(crate::specs::Views::as_equation))]
+#[tactic(auto, using(crate::proofs::RewriteShapes::equation_rules))]
 fn by_equation(t: &Term) -> Option<Rewriting<'_>>
-    ensures { option_map rewriting_tree result ≡ by_equation (view.as_equation (term_tree t.now)) }
+    ensures { option_map rewriting_tree result ≡ spec.by_equation (term_tree t.now) }
 {
-    match t {
-        Term::TsEq(a, b) => Some(Rewriting::Times(a, b)),
-        Term::IdxEq(i, j) => Some(Rewriting::Indices(*i, *j)),
-        Term::Fun(_, _, _) => match as_binary(Builtin::Eq.number(), t) {
-            Some((a, b)) => Some(Rewriting::Terms(a, b)),
-            None => None,
+    match shape_of(Some(t)) {
+        Shape::Equal(a, b) => Some(Rewriting::Terms(a, b)),
+        Shape::EqualTimes(a, b) => Some(Rewriting::Times(a, b)),
+        Shape::EqualIndices(i, j) => Some(Rewriting::Indices(i, j)),
+        _ => None,
+    }
+}
+
+// Of `there && back`, which are to be `a => b` and `b => a`.
+#[tactic(auto, using(crate::proofs::RewriteShapes::half_rules))]
+fn by_halves<'a>(there: &'a Term, back: &Term) -> Option<Rewriting<'a>>
+    ensures { option_map rewriting_tree result
+        ≡ spec.by_equivalence (both (term_tree there.now) (term_tree back.now)) }
+{
+    match shape_of(Some(there)) {
+        Shape::Implies(a, b) => match shape_of(Some(back)) {
+            Shape::Implies(c, d) => {
+                if is_same(a, d) && is_same(b, c) {
+                    Some(Rewriting::Terms(a, b))
+                } else {
+                    None
+                }
+            }
+            _ => None,
         },
         _ => None,
     }
 }
 
-// The two sides of `a => b`, where the other term is `b => a`.
-fn halves<'a>(there: &'a Term, back: &Term) -> Option<(&'a Term, &'a Term)>
-    ensures { let seen = halves (term_tree there.now) (term_tree back.now) in
-        MatchOption result (seen ≡ no_two) (λ p. seen ≡ two (term_tree p.0.now) (term_tree p.1.now)) }
-{
-    match as_binary(Builtin::Implies.number(), there) {
-        Some((a, b)) => match as_binary(Builtin::Implies.number(), back) {
-            Some((c, d)) => {
-                if is_same(a, d) && is_same(b, c) {
-                    Some((a, b))
-                } else {
-                    None
-                }
-            }
-            None => None,
-        },
-        None => None,
-    }
-}
-
-#[tactic(auto, unfolding(crate::specs::Rewriting::as_equivalence))]
+#[tactic(auto, using(crate::proofs::RewriteShapes::equivalence_rules))]
 fn by_equivalence(t: &Term) -> Option<Rewriting<'_>>
-    ensures { option_map rewriting_tree result ≡ spec.by_equivalence (spec.as_equivalence (term_tree t.now)) }
+    ensures { option_map rewriting_tree result ≡ spec.by_equivalence (term_tree t.now) }
 {
-    match as_binary(Builtin::And.number(), t) {
-        Some((there, back)) => match halves(there, back) {
-            Some((a, b)) => Some(Rewriting::Terms(a, b)),
-            None => None,
-        },
-        None => None,
+    match shape_of(Some(t)) {
+        Shape::And(there, back) => by_halves(there, back),
+        _ => None,
     }
 }
 
@@ -121,12 +119,12 @@ pub fn rewriting_in<'a>(s: &Sequent, dir: Dir, t: Option<&'a Term>) -> Option<Re
 }
 
 fn replaced(alloc: Global, by: &Rewriting, t: &Term) -> Result<Term, SizeFault>
-    ensures { Gives size_fault.NoMemory term_tree result (within 8388608 (rewritten (rewriting_tree by.now) (term_tree t.now))) }
+    ensures { Gives size_fault.NoMemory term_tree result (within most_nodes (rewritten (rewriting_tree by.now) (term_tree t.now))) }
 {
     match by {
-        Rewriting::Terms(from, to) => replace_term(alloc, t, from, to, MAX_NODES),
-        Rewriting::Times(from, to) => replace_ts(alloc, t, from, to, MAX_NODES),
-        Rewriting::Indices(from, to) => replace_idx(alloc, t, from, to, MAX_NODES),
+        Rewriting::Terms(from, to) => replace_term(alloc, t, from, to, MOST_NODES),
+        Rewriting::Times(from, to) => replace_ts(alloc, t, from, to, MOST_NODES),
+        Rewriting::Indices(from, to) => replace_idx(alloc, t, from, to, MOST_NODES),
     }
 }
 
@@ -134,11 +132,7 @@ fn replaced(alloc: Global, by: &Rewriting, t: &Term) -> Result<Term, SizeFault>
 pub fn rewrite(alloc: Global, by: &Rewriting, t: &Term) -> Result<Term, RuleFault>
     ensures { Gives RuleFault.NoMemory term_tree result (held (rewritten (rewriting_tree by.now) (term_tree t.now))) }
 {
-    match replaced(alloc, by, t) {
-        Ok(t) => Ok(t),
-        Err(SizeFault::TooLarge) => Err(RuleFault::TooLarge),
-        Err(SizeFault::NoMemory) => Err(RuleFault::NoMemory),
-    }
+    Ok(replaced(alloc, by, t)?)
 }
 
 #[tactic(auto, using(crate::proofs::RewriteLimits::item_rules))]
@@ -181,9 +175,9 @@ fn copy_with(alloc: Global, terms: &[Term], at: usize, term: Term) -> Result<Seq
 /// The sequent with this term for its hypothesis k.
 #[tactic(auto, using(crate::proofs::RewriteLimits::hyp_at_rules))]
 pub fn with_hyp_at(alloc: Global, s: &Sequent, k: u32, hyp: Term) -> Result<Sequent, NoMemory>
-    requires { k < length (view.hyps_of (sequent_tree s.now)) }
+    requires { k < length (sequents.hyps_of (sequent_tree s.now)) }
     ensures { IfOk result
-        (λ p. sequent_tree p ≡ made.with_hyps (slice_set (view.hyps_of (sequent_tree s.now)) k (term_tree hyp)) (sequent_tree s.now)) }
+        (λ p. sequent_tree p ≡ premises.with_hyps (slice_set (sequents.hyps_of (sequent_tree s.now)) k (term_tree hyp)) (sequent_tree s.now)) }
 {
     let hyps = copy_with(alloc, hyps_of(s), k as usize, hyp)?;
     with_hyps(alloc, s, hyps)

@@ -1,23 +1,20 @@
 // Which terms, timestamps and indices may stand in a sequent of a goal.
-ghost use Rattle.std.specs.Prelude.{◌≡◌, [], IfOk, map, length, option_map};
+ghost use Rattle.std.specs.Prelude.{◌≡◌, IfOk, map, length, option_map};
 ghost use Rattle.std.specs.Option.{option_copied};
 ghost use Rattle.sq_term.specs.Arguments.{arg_tree, an_index, a_time};
-ghost use Rattle.sq_term.specs.View.{ts_tree, term_tree};
+ghost use Rattle.sq_term.specs.View.{ts_tree};
 ghost use Rattle.sq_system.specs.Environments.{env_tree};
-ghost use Rattle.sq_system.specs.Sequents.{sequent_tree};
-ghost use Rattle.sq_system.specs.Typing.{is_index as is_the_index, is_timestamp as is_the_timestamp};
-ghost use Rattle.sq_ground.specs.Usable.{statement_at, system_of};
-ghost use Rattle.sq_sequent.specs.Premises.{vars_of as the_vars};
-ghost use Rattle.sq_sequent.specs.Scopes.{arities, scope_signature, statement_or_none};
-ghost use Rattle.sq_sequent.specs.Standing as spec;
+ghost use Rattle.sq_system.specs.Usable.{statement_at};
+ghost use Rattle.sq_sequent.specs.Statements.{statement_or_none};
 
 use crate::places::{idx_at, term_at, ts_at};
-use crate::sorts::{Binders, Scope, has_sort, is_index, is_timestamp};
+use crate::site::Site;
 use crate::step::{IdxArg, TermArg, TsArg, ValArg};
+use crate::views::vars_of;
 use sq_base::{NoMemory, Sort};
-use sq_system::{Env, Sequent, Stmt, System, holds_diff};
-use sq_term::{Arg, Idx, Side, Term, Ts, copy_ts, is_pure};
-use sqlite_items::at;
+use sq_system::{Env, Sequent, Stmt, System};
+use sq_term::{Action, Arg, Idx, Term, Ts, copy_ts};
+use sq_typing::{Binders, Signature, Subject};
 use std::alloc::Global;
 
 /// The statement with this number.
@@ -25,142 +22,7 @@ use std::alloc::Global;
 pub fn statement(env: &Env, goal: u32) -> Option<&Stmt>
     ensures { statement_or_none (option_copied result) ≡ statement_at (env_tree env.now) goal }
 {
-    at(env.stmts.as_slice(), goal as usize)
-}
-
-#[tactic(auto, using(crate::proofs::Scoping::system_rules))]
-fn system_for(env: &Env, goal: u32) -> Option<&System>
-    ensures { arities (option_copied result) ≡ map (λ a. a.arity) (system_of (env_tree env.now) goal) }
-{
-    let number = match statement(env, goal) {
-        Some(stmt) => stmt.system,
-        None => 0,
-    };
-    at(env.systems.as_slice(), number as usize)
-}
-
-fn schemas_of(env: &Env, goal: u32) -> usize
-    ensures { result ≡ length (statement_at (env_tree env.now) goal).schemas }
-{
-    match statement(env, goal) {
-        Some(stmt) => stmt.schemas.len(),
-        None => 0,
-    }
-}
-
-fn vars_of(s: &Sequent) -> &[Sort]
-    ensures { result.now ≡ the_vars (sequent_tree s.now) }
-{
-    match s {
-        Sequent::Trace { vars, .. } | Sequent::Local { vars, .. } | Sequent::Equiv { vars, .. } =>
-            vars.as_slice(),
-    }
-}
-
-fn scope<'a>(env: &'a Env, goal: u32, s: &'a Sequent) -> Scope<'a>
-    ensures { scope_signature result ≡ spec.signature_for (env_tree env.now) goal (the_vars (sequent_tree s.now)) }
-{
-    Scope {
-        names: env.names.as_slice(),
-        funs: env.funs.as_slice(),
-        system: system_for(env, goal),
-        schemas: schemas_of(env, goal),
-        vars: vars_of(s),
-    }
-}
-
-fn suits(s: &Sequent, t: &Term) -> bool
-    ensures { result ≡ spec.suits (sequent_tree s.now) (term_tree t.now) }
-{
-    match s {
-        Sequent::Trace { .. } | Sequent::Equiv { .. } => is_pure(t),
-        Sequent::Local {
-            side: Side::Both,
-            ..
-        } => true,
-        Sequent::Local { .. } => !holds_diff(t),
-    }
-}
-
-/// Whether the term has the sort and may stand in the sequent: it speaks of the environment, the
-/// goal's system and the sequent's variables alone, is a trace formula in a Trace sequent and in the
-/// hypotheses of an equivalence, and holds no Diff in a local sequent of one side.
-#[tactic(auto, unfolding(crate::specs::Standing::may_stand))]
-pub fn may_stand(env: &Env, goal: u32, s: &Sequent, sort: Sort, t: &Term) -> bool
-    ensures { result ≡ spec.may_stand (env_tree env.now) goal (sequent_tree s.now) sort (term_tree t.now) }
-{
-    has_sort(t, &scope(env, goal, s), &Binders::Outermost, sort) && suits(s, t)
-}
-
-/// The term of an argument, where it may stand in the sequent with this sort.
-#[tactic(auto, unfolding(crate::specs::Standing::term_in))]
-pub fn term_in<'a>(
-    env: &'a Env,
-    goal: u32,
-    s: &'a Sequent,
-    sort: Sort,
-    arg: &'a TermArg,
-) -> Option<&'a Term>
-    ensures { option_map term_tree (option_copied result) ≡ spec.term_in (env_tree env.now) goal (sequent_tree s.now) sort arg.now }
-{
-    match term_at(s, arg) {
-        Some(t) => {
-            if may_stand(env, goal, s, sort, t) {
-                Some(t)
-            } else {
-                None
-            }
-        }
-        None => None,
-    }
-}
-
-fn is_time_of(env: &Env, goal: u32, s: &Sequent, t: &Ts) -> bool
-    ensures { result ≡ is_the_timestamp (spec.signature_for (env_tree env.now) goal (the_vars (sequent_tree s.now))) [] (ts_tree t.now) }
-{
-    let scope = scope(env, goal, s);
-    is_timestamp(t, &scope, &Binders::Outermost)
-}
-
-fn is_index_of(env: &Env, goal: u32, s: &Sequent, i: Idx) -> bool
-    ensures { result ≡ is_the_index (spec.signature_for (env_tree env.now) goal (the_vars (sequent_tree s.now))) [] i }
-{
-    let scope = scope(env, goal, s);
-    is_index(&scope, &Binders::Outermost, i)
-}
-
-/// The timestamp of an argument, where it may stand in the sequent.
-#[tactic(auto, unfolding(crate::specs::Standing::time_in))]
-pub fn time_in<'a>(env: &Env, goal: u32, s: &'a Sequent, arg: &'a TsArg) -> Option<&'a Ts>
-    ensures { option_map ts_tree (option_copied result) ≡ spec.time_in (env_tree env.now) goal (sequent_tree s.now) arg.now }
-{
-    match ts_at(s, arg) {
-        Some(t) => {
-            if is_time_of(env, goal, s, t) {
-                Some(t)
-            } else {
-                None
-            }
-        }
-        None => None,
-    }
-}
-
-/// The index of an argument, where it may stand in the sequent.
-#[tactic(auto, unfolding(crate::specs::Standing::index_in))]
-pub fn index_in(env: &Env, goal: u32, s: &Sequent, arg: IdxArg) -> Option<Idx>
-    ensures { result ≡ spec.index_in (env_tree env.now) goal (sequent_tree s.now) arg }
-{
-    match idx_at(s, arg) {
-        Some(i) => {
-            if is_index_of(env, goal, s, i) {
-                Some(i)
-            } else {
-                None
-            }
-        }
-        None => None,
-    }
+    sqlite_items::at(env.stmts.as_slice(), goal as usize)
 }
 
 fn as_index(found: Option<Idx>) -> Option<Arg>
@@ -173,7 +35,8 @@ fn as_index(found: Option<Idx>) -> Option<Arg>
 }
 
 fn as_time(alloc: Global, found: Option<&Ts>) -> Result<Option<Arg>, NoMemory>
-    ensures { IfOk result (λ v. option_map arg_tree v ≡ option_map a_time (option_map ts_tree (option_copied found.entry))) }
+    ensures { IfOk result (λ v. option_map arg_tree v
+        ≡ option_map a_time (option_map ts_tree (option_copied found.entry))) }
 {
     match found {
         Some(t) => {
@@ -184,22 +47,146 @@ fn as_time(alloc: Global, found: Option<&Ts>) -> Result<Option<Arg>, NoMemory>
     }
 }
 
-/// The value of an argument for a binder of this sort, where it has that sort and may stand in the
-/// sequent.
-#[tactic(auto, unfolding(crate::specs::Standing::value_in))]
-pub fn value_in(
-    alloc: Global,
-    env: &Env,
-    goal: u32,
-    s: &Sequent,
-    sort: Sort,
-    arg: &ValArg,
-) -> Result<Option<Arg>, NoMemory>
-    ensures { IfOk result (λ v. option_map arg_tree v ≡ spec.value_in (env_tree env.now) goal (sequent_tree s.now) sort arg.now) }
-{
-    match (sort, arg) {
-        (Sort::Index, ValArg::Index(arg)) => Ok(as_index(index_in(env, goal, s, *arg))),
-        (Sort::Timestamp, ValArg::Time(arg)) => as_time(alloc, time_in(env, goal, s, arg)),
-        _ => Ok(None),
+impl<'a> Site<'a> {
+    ghost use Rattle.std.specs.Prelude.{[]};
+    ghost use Rattle.sq_term.specs.View.{term_tree};
+    ghost use Rattle.sq_system.specs.Sequents.{body_of, sequent_tree};
+    ghost use Rattle.sq_system.specs.Usable.{system_of};
+    ghost use Rattle.sq_system.specs.WellFormed.{subject_of};
+    ghost use Rattle.sq_typing.specs.Typing as typing;
+    ghost use Rattle.sq_typing.specs.Views.{signature_tree, arities, subject};
+    ghost use Rattle.sq_sequent.specs.Laws.{MayBeAssumed};
+    ghost use Rattle.sq_sequent.specs.Site.{site_tree};
+    ghost use Rattle.sq_sequent.specs.Standing as spec;
+
+    // The actions of the goal's system.
+    #[tactic(auto, using(crate::proofs::Scoping::system_rules))]
+    fn actions(&self) -> &'a [Action]
+        ensures { arities result.now
+            ≡ map (λ a. a.arity) (system_of (site_tree self.now).env self.now.goal).actions }
+    {
+        let number = match statement(self.env, self.goal) {
+            Some(stmt) => stmt.system,
+            None => 0,
+        };
+        match sqlite_items::at(self.env.systems.as_slice(), number as usize) {
+            Some(system) => system.actions(),
+            None => &[],
+        }
+    }
+
+    // How many schema variables the goal has.
+    fn schemas(&self) -> usize
+        ensures { result ≡ length (statement_at (site_tree self.now).env self.now.goal).schemas }
+    {
+        match statement(self.env, self.goal) {
+            Some(stmt) => stmt.schemas.len(),
+            None => 0,
+        }
+    }
+
+    /// What the sequent's terms may speak of.
+    pub fn signature(&self) -> Signature<'a>
+        ensures { signature_tree result ≡ spec.signature_at (site_tree self.now) }
+    {
+        Signature {
+            names: self.env.names.as_slice(),
+            funs: self.env.funs.as_slice(),
+            actions: self.actions(),
+            schemas: self.schemas(),
+            vars: vars_of(self.sequent).as_slice(),
+        }
+    }
+
+    /// What the sequent's formulas speak of.
+    pub fn subject(&self) -> Subject
+        ensures { subject result ≡ subject_of (body_of (site_tree self.now).sequent) }
+    {
+        match self.sequent {
+            Sequent::Trace { .. } | Sequent::Equiv { .. } => Subject::Trace,
+            Sequent::Local { side, .. } => Subject::Side(*side),
+        }
+    }
+
+    /// Whether the term has the sort and may stand in the sequent: it speaks of the environment, the
+    /// goal's system and the sequent's variables alone, is a trace formula in a Trace sequent and in
+    /// the hypotheses of an equivalence, and holds no Diff in a local sequent of one side.
+    #[tactic(auto, unfolding(crate::specs::Standing::may_stand))]
+    pub fn may_stand(&self, sort: Sort, t: &Term) -> bool
+        ensures standing { result ≡ spec.may_stand (site_tree self.now) sort (term_tree t.now) }
+        ensures assumed { MayBeAssumed (site_tree self.now) (term_tree t.now) }
+    {
+        self.signature().may_stand(self.subject(), sort, t)
+    }
+
+    /// The term of an argument, where it may stand in the sequent with this sort.
+    #[tactic(auto, unfolding(crate::specs::Standing::term_in))]
+    pub fn term_in<'b>(&self, sort: Sort, arg: &'b TermArg) -> Option<&'b Term>
+    where
+        'a: 'b,
+        ensures { option_map term_tree (option_copied result)
+            ≡ spec.term_in (site_tree self.now) sort arg.now }
+    {
+        match term_at(self.sequent, arg) {
+            Some(t) => {
+                if self.may_stand(sort, t) {
+                    Some(t)
+                } else {
+                    None
+                }
+            }
+            None => None,
+        }
+    }
+
+    /// The timestamp of an argument, where it may stand in the sequent.
+    #[tactic(auto, using(sq_typing::proofs::Sorting::outermost_rules), unfolding(crate::specs::Standing::time_in))]
+    pub fn time_in<'b>(&self, arg: &'b TsArg) -> Option<&'b Ts>
+    where
+        'a: 'b,
+        ensures { option_map ts_tree (option_copied result)
+            ≡ spec.time_in (site_tree self.now) arg.now }
+    {
+        match ts_at(self.sequent, arg) {
+            Some(t) => {
+                if self.signature().is_timestamp(&Binders::Outermost, t) {
+                    Some(t)
+                } else {
+                    None
+                }
+            }
+            None => None,
+        }
+    }
+
+    /// The index of an argument, where it may stand in the sequent.
+    #[tactic(auto, using(sq_typing::proofs::Sorting::outermost_rules), unfolding(crate::specs::Standing::index_in))]
+    pub fn index_in(&self, arg: IdxArg) -> Option<Idx>
+        ensures { result ≡ spec.index_in (site_tree self.now) arg }
+    {
+        match idx_at(self.sequent, arg) {
+            Some(i) => {
+                if self.signature().is_index(&Binders::Outermost, i) {
+                    Some(i)
+                } else {
+                    None
+                }
+            }
+            None => None,
+        }
+    }
+
+    /// The value of an argument for a binder of this sort, where it has that sort and may stand in
+    /// the sequent.
+    #[tactic(auto, unfolding(crate::specs::Standing::value_in))]
+    pub fn value_in(&self, alloc: Global, sort: Sort, arg: &ValArg) -> Result<Option<Arg>, NoMemory>
+        ensures { IfOk result
+            (λ v. option_map arg_tree v ≡ spec.value_in (site_tree self.now) sort arg.now) }
+    {
+        match (sort, arg) {
+            (Sort::Index, ValArg::Index(arg)) => Ok(as_index(self.index_in(*arg))),
+            (Sort::Timestamp, ValArg::Time(arg)) => as_time(alloc, self.time_in(arg)),
+            _ => Ok(None),
+        }
     }
 }

@@ -3,8 +3,8 @@ ghost use Rattle.std.specs.Prelude.{◌≡◌, ◌&&◌, true, false, cond};
 ghost use Rattle.sq_term.specs.View.{term_tree, term_trees};
 ghost use Rattle.sq_system.specs.Environments.{env_tree};
 ghost use Rattle.sq_system.specs.Sequents.{sequent_tree};
-ghost use Rattle.sq_ground.specs.Usable as spec;
-ghost use Rattle.sq_ground.specs.Usable.{formula_of, statement_at};
+ghost use Rattle.sq_system.specs.Usable as spec;
+ghost use Rattle.sq_system.specs.Usable.{formula_of, statement_at};
 ghost use Rattle.sq_sequent.specs.Uses.{states_a_formula as spec_states};
 
 use crate::standing::statement;
@@ -95,7 +95,7 @@ fn is_timeless_axiom(env: &Env, k: u32) -> bool
 /// Whether statement k may be used in the proof of a later goal: both belong to one system, or k is
 /// an axiom that does not speak of time.
 pub fn is_usable(env: &Env, goal: u32, k: u32) -> bool
-    ensures { result ≡ spec.is_usable (env_tree env.now) goal k }
+    ensures { result ≡ spec.usable (env_tree env.now) goal k }
 {
     k < goal && (system_number(env, k) == system_number(env, goal) || is_timeless_axiom(env, k))
 }

@@ -4,40 +4,39 @@ ghost use Rattle.std.specs.Option.{option_copied};
 ghost use Rattle.sq_base.specs.Gives.{Gives};
 ghost use Rattle.sq_term.specs.View.{term_tree};
 ghost use Rattle.sq_system.specs.Environments.{env_tree};
-ghost use Rattle.sq_system.specs.Sequents.{sequent_tree};
 ghost use Rattle.sq_system.specs.Statements.{stmt_tree};
 ghost use Rattle.sq_subst.specs.Substitution.{instance_of};
 ghost use Rattle.sq_sequent.specs.Logic.{held};
+ghost use Rattle.sq_sequent.specs.Site.{site_tree};
 ghost use Rattle.sq_sequent.specs.Uses as spec;
 
 use crate::fault::RuleFault;
-use crate::limits::MAX_NODES;
-use crate::standing::term_in;
+use crate::limits::MOST_NODES;
+use crate::site::Site;
 use crate::step::TermArg;
 use crate::usable::{is_usable, states_a_formula};
 use crate::views::goal_of;
 use sq_base::{NoMemory, Seq, Sort};
-use sq_subst::{SizeFault, instance, project};
-use sq_system::{Env, Sequent, Stmt};
+use sq_subst::{instance, project};
+use sq_system::{Env, Stmt};
 use sq_term::{Side, Term, copy};
-use sqlite_items::at;
 use std::alloc::Global;
 
 fn statement_there(env: &Env, k: u32) -> Option<&Stmt>
     ensures { option_map stmt_tree (option_copied result) ≡ slice_get (env_tree env.now).stmts k }
 {
-    at(env.stmts.as_slice(), k as usize)
+    sqlite_items::at(env.stmts.as_slice(), k as usize)
 }
 
 /// The formula of statement k, where it is an axiom or a lemma that the goal may use, and has so many
 /// schema variables.
 #[tactic(auto, unfolding(crate::specs::Uses::offered))]
-pub fn offered(env: &Env, goal: u32, k: u32, count: usize) -> Option<&Term>
-    ensures { option_map term_tree (option_copied result) ≡ spec.offered (env_tree env.now) goal k count }
+pub fn offered<'a>(at: &Site<'a>, k: u32, count: usize) -> Option<&'a Term>
+    ensures { option_map term_tree (option_copied result) ≡ spec.offered (site_tree at.now) k count }
 {
-    match statement_there(env, k) {
+    match statement_there(at.env, k) {
         Some(stmt) => {
-            if is_usable(env, goal, k)
+            if is_usable(at.env, at.goal, k)
                 && states_a_formula(stmt.kind)
                 && count == stmt.schemas.len()
             {
@@ -54,16 +53,14 @@ pub fn offered(env: &Env, goal: u32, k: u32, count: usize) -> Option<&Term>
 #[tactic(auto, using(crate::proofs::Messages::message_rules))]
 pub fn messages_in(
     alloc: Global,
-    env: &Env,
-    goal: u32,
-    s: &Sequent,
+    at: &Site,
     args: &[TermArg],
 ) -> Result<Option<Seq<Term>>, NoMemory>
-    ensures { IfOk result (λ ms. option_map (map term_tree) ms ≡ spec.messages_in (env_tree env.now) goal (sequent_tree s.now) args.now) }
+    ensures { IfOk result (λ ms. option_map (map term_tree) ms ≡ spec.messages_in (site_tree at.now) args.now) }
 {
     let mut messages = Seq::new(alloc);
     for arg in args {
-        match term_in(env, goal, s, Sort::Message, arg) {
+        match at.term_in(Sort::Message, arg) {
             Some(message) => messages.push(copy(alloc, message)?)?,
             None => return Ok(None),
         }
@@ -75,11 +72,7 @@ fn with_messages(alloc: Global, formula: &Term, messages: &[Term]) -> Result<Ter
     ensures { Gives RuleFault.NoMemory term_tree result
         (held (instance_of [] (map term_tree messages.now) (term_tree formula.now))) }
 {
-    match instance(alloc, formula, &[], messages, MAX_NODES) {
-        Ok(said) => Ok(said),
-        Err(SizeFault::TooLarge) => Err(RuleFault::TooLarge),
-        Err(SizeFault::NoMemory) => Err(RuleFault::NoMemory),
-    }
+    Ok(instance(alloc, formula, &[], messages, MOST_NODES)?)
 }
 
 /// What the formula says on a side of these messages, or TooLarge where no sequent may hold it.
@@ -93,9 +86,6 @@ pub fn instance_on(
     ensures { Gives RuleFault.NoMemory term_tree result
         (held (spec.instance_on side (map term_tree messages.now) (term_tree formula.now))) }
 {
-    match project(alloc, formula, side, MAX_NODES) {
-        Ok(there) => with_messages(alloc, &there, messages),
-        Err(SizeFault::TooLarge) => Err(RuleFault::TooLarge),
-        Err(SizeFault::NoMemory) => Err(RuleFault::NoMemory),
-    }
+    let there = project(alloc, formula, side, MOST_NODES)?;
+    with_messages(alloc, &there, messages)
 }

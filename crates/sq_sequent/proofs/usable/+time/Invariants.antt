@@ -1,7 +1,7 @@
 use Rattle.std.proofs.Common.{◌≡◌, drop}
 use Rattle.std.specs.Prelude.{◌||◌}
 use Rattle.sq_term.specs.View.{term_trees}
-use Rattle.sq_ground.specs.Usable.{speak_of_time}
+use Rattle.sq_system.specs.Usable.{speak_of_time}
 use Rattle.sq_sequent.proofs.usable.+time.Given as goal
 
 abbrev pub invariant-speak_of_time-loop-term : goal.invariant-speak_of_time-loop-term
