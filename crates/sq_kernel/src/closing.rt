@@ -1,30 +1,33 @@
 // A list of steps against a goal.
-ghost use Rattle.std.specs.Prelude.{◌≡◌, ◌<◌, ◌↔◌, IfOk, length, reverse};
+ghost use Rattle.std.specs.Prelude.{◌≡◌, ◌<◌, ◌↔◌, Some, IfOk, length, reverse};
 ghost use Rattle.sq_system.specs.Environments.{env_tree};
-ghost use Rattle.sq_ground.specs.Theories.{HoldsEverywhere};
-ghost use Rattle.sq_sequent.specs.Soundness.{EarlierHold};
+ghost use Rattle.sq_ground.specs.Goals.{HoldsEverywhere};
 ghost use Rattle.sq_sequent.specs.Logic.{sequent_trees};
-ghost use Rattle.sq_kernel.specs.Closing.{at_end, rejection_of, verdict_of, ClosesGoal};
+ghost use Rattle.sq_rules_logic.specs.Soundness.{EarlierHold};
+ghost use Rattle.sq_kernel.specs.Closing.{at_end, verdict_of, ClosesGoal};
 
-use crate::fault::{Kind, StepFault, Verdict};
+use crate::fault::Verdict;
 use crate::stack::advance_last;
 use sq_base::NoMemory;
-use sq_sequent::{Env, RuleFault, Sequent, Step, copy_sequent};
+use sq_sequent::{Env, Sequent, Step, copy_sequent};
 use std::alloc::Global;
 
 /// What the steps make of the goal's starting sequent.
 pub fn check(alloc: Global, steps: &[Step], env: &Env, goal: u32) -> Result<Verdict, NoMemory>
     requires { goal < length env.now.stmts }
-    ensures verdict { IfOk result (λ v. v ≡ verdict_of steps.now (env_tree env.now) goal) }
+    ensures verdict { IfOk result (λ v. verdict_of (env_tree env.now) goal steps.now ≡ Some v) }
     ensures closed { IfOk result (λ v. (v ≡ Verdict.Closed) ↔ ClosesGoal (env_tree env.now) goal steps.now) }
-    ensures sound { IfOk result (λ v. v ≡ Verdict.Closed → EarlierHold (env_tree env.now) goal → HoldsEverywhere (env_tree env.now) goal) }
+    ensures sound { IfOk result (λ v. v ≡ Verdict.Closed → EarlierHold (env_tree env.now) goal
+        → HoldsEverywhere (env_tree env.now) goal) }
 {
+    env.facts();
     verdict(alloc, steps, env, goal)
 }
 
+// Apart from `check`, so that what follows from the verdict is shown once and not at each return.
 fn verdict(alloc: Global, steps: &[Step], env: &Env, goal: u32) -> Result<Verdict, NoMemory>
     requires { goal < length env.now.stmts }
-    ensures { IfOk result (λ v. v ≡ verdict_of steps.now (env_tree env.now) goal) }
+    ensures { IfOk result (λ v. verdict_of (env_tree env.now) goal steps.now ≡ Some v) }
 {
     let start = &env.stmts.as_slice()[goal as usize].start;
     let mut stack = Vec::new(alloc);
@@ -33,7 +36,7 @@ fn verdict(alloc: Global, steps: &[Step], env: &Env, goal: u32) -> Result<Verdic
     'steps: for step in steps {
         number += 1;
         if let Err(fault) = advance_last(alloc, &mut stack, step, env, goal) {
-            match rejection(fault) {
+            match fault.kind() {
                 Some(kind) => return Ok(Verdict::Rejected(number, kind)),
                 None => return Err(NoMemory),
             }
@@ -50,27 +53,5 @@ fn end_of(stack: &Vec<Sequent>) -> Verdict
         Verdict::Closed
     } else {
         Verdict::Left(stack.len() as u64)
-    }
-}
-
-// Why the step has no premises. None is want of memory.
-fn rejection(fault: StepFault) -> Option<Kind>
-    ensures { result ≡ rejection_of fault }
-{
-    kind(&fault)
-}
-
-fn kind(fault: &StepFault) -> Option<Kind>
-    ensures { result ≡ rejection_of fault.now }
-{
-    match fault {
-        StepFault::Extra => Some(Kind::Extra),
-        StepFault::Rule(RuleFault::Shape) => Some(Kind::Shape),
-        StepFault::Rule(RuleFault::HasSchema) => Some(Kind::HasSchema),
-        StepFault::Rule(RuleFault::BadOccurrence(occurrence)) => {
-            Some(Kind::BadOccurrence(occurrence.name))
-        }
-        StepFault::Rule(RuleFault::TooLarge) => Some(Kind::TooLarge),
-        StepFault::Rule(RuleFault::NoMemory) => None,
     }
 }

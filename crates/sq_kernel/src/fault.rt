@@ -1,7 +1,4 @@
 // What a step and a list of steps answer.
-ghost use Rattle.std.specs.Prelude.{◌≡◌};
-ghost use Rattle.sq_kernel.specs.Closing as spec;
-
 use sq_sequent::RuleFault;
 
 /// Why a step changes no stack: no sequent is left, or its rule has no premises for the first one.
@@ -28,4 +25,25 @@ pub enum Verdict {
     Closed,
     Rejected(u64, Kind),
     Left(u64),
+}
+
+impl StepFault {
+    ghost use Rattle.std.specs.Prelude.{◌≡◌};
+    ghost use Rattle.sq_kernel.specs.Closing.{kind_of};
+
+    /// Why the step was refused. None is want of memory, which is no reason.
+    pub fn kind(&self) -> Option<Kind>
+        ensures { result ≡ kind_of self.now }
+    {
+        match self {
+            StepFault::Extra => Some(Kind::Extra),
+            StepFault::Rule(RuleFault::Shape) => Some(Kind::Shape),
+            StepFault::Rule(RuleFault::HasSchema) => Some(Kind::HasSchema),
+            StepFault::Rule(RuleFault::BadOccurrence(occurrence)) => {
+                Some(Kind::BadOccurrence(occurrence.name))
+            }
+            StepFault::Rule(RuleFault::TooLarge) => Some(Kind::TooLarge),
+            StepFault::Rule(RuleFault::NoMemory) => None,
+        }
+    }
 }

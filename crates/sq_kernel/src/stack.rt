@@ -3,14 +3,29 @@ ghost use Rattle.std.specs.Prelude.{◌≡◌, ◌<◌, ◌++◌, Err, OnOk, OnE
 ghost use Rattle.sq_base.specs.Gives.{Gives};
 ghost use Rattle.sq_system.specs.Environments.{env_tree};
 ghost use Rattle.sq_sequent.specs.Logic.{sequent_trees};
-ghost use Rattle.sq_kernel.specs.Closing.{advanced};
+ghost use Rattle.sq_system.specs.Sequents.{sequent_tree};
+ghost use Rattle.sq_kernel.specs.Closing.{site, calculus, advanced};
 
 use crate::fault::StepFault;
 use sq_base::{NoMemory, Seq};
 use sq_rules_logic::premises;
-use sq_sequent::{Env, RuleFault, Sequent, Step};
+use sq_sequent::{Env, RuleFault, Sequent, Site, Step};
 use std::alloc::Global;
 use std::mem;
+
+fn premises_of(
+    alloc: Global,
+    env: &Env,
+    goal: u32,
+    sequent: &Sequent,
+    step: &Step,
+) -> Result<Seq<Sequent>, RuleFault>
+    ensures { Gives RuleFault.NoMemory sequent_trees result
+        (calculus (site (env_tree env.now) goal (sequent_tree sequent.now)) step.now) }
+{
+    let at = Site { env, goal, sequent };
+    premises(alloc, &at, step)
+}
 
 /// Replaces the first sequent by its premises. Where they are not exactly one, the other sequents
 /// are moved once.
@@ -23,12 +38,12 @@ pub fn advance(
 ) -> Result<(), StepFault>
     requires { goal < length env.now.stmts }
     ensures answer { Gives (StepFault.Rule RuleFault.NoMemory) (λ _. sequent_trees stack.new) result
-        (advanced step.now (sequent_trees stack.old) (env_tree env.now) goal) }
+        (advanced (env_tree env.now) goal step.now (sequent_trees stack.old)) }
     ensures unchanged { OnErr result (stack.new ≡ stack.old) }
 {
     match stack.as_slice() {
         [] => Err(StepFault::Extra),
-        [first, ..] => match premises(alloc, step, first, env, goal) {
+        [first, ..] => match premises_of(alloc, env, goal, first, step) {
             Ok(premises) => match replace_first(stack, premises) {
                 Ok(()) => Ok(()),
                 Err(_) => Err(StepFault::Rule(RuleFault::NoMemory)),
@@ -70,11 +85,11 @@ pub fn advance_last(
     goal: u32,
 ) -> Result<(), StepFault>
     ensures { Gives (StepFault.Rule RuleFault.NoMemory) (λ _. sequent_trees (reverse stack.new.items)) result
-        (advanced step.now (sequent_trees (reverse stack.old.items)) (env_tree env.now) goal) }
+        (advanced (env_tree env.now) goal step.now (sequent_trees (reverse stack.old.items))) }
 {
     match stack.pop() {
         None => Err(StepFault::Extra),
-        Some(first) => put_premises(stack, premises(alloc, step, &first, env, goal)),
+        Some(first) => put_premises(stack, premises_of(alloc, env, goal, &first, step)),
     }
 }
 

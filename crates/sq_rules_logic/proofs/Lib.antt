@@ -1,1 +1,16 @@
-pub mod UseTests
+pub mod EqualityRules
+pub mod Holding
+pub mod Sorted
+pub mod FurtherVariable
+pub mod Domains
+pub mod QuantifierSound
+pub mod SideSound
+pub mod EquationSound
+pub mod FindFact
+pub mod FactSound
+pub mod InstanceMeaning
+pub mod UseSound
+pub mod RewriteSound
+pub mod RowSound
+pub mod SideLimits
+pub mod Answering

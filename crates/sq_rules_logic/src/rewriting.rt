@@ -1,12 +1,12 @@
 // The row that rewrites by a hypothesis.
-ghost use Rattle.std.specs.Prelude.{◌≡◌, [], ◌∷◌, map};
-ghost use Rattle.sq_term.specs.View.{term_tree};
+ghost use Rattle.std.specs.Prelude.{[], ◌∷◌, map};
 ghost use Rattle.sq_base.specs.Gives.{Gives};
+ghost use Rattle.sq_term.specs.View.{term_tree};
 ghost use Rattle.sq_system.specs.Sequents.{item_of, sequent_tree, equiv};
-ghost use Rattle.sq_sequent.specs.Views.{goal_of as the_goal, hyp_of as the_hyp};
-ghost use Rattle.sq_sequent.specs.Rewriting as row;
-ghost use Rattle.sq_sequent.specs.Rewriting.{rewriting_tree};
 ghost use Rattle.sq_sequent.specs.Logic.{sequent_trees, judged, within_limits};
+ghost use Rattle.sq_sequent.specs.Rewriting as spec;
+ghost use Rattle.sq_sequent.specs.Rewriting.{rewriting_tree};
+ghost use Rattle.sq_sequent.specs.Views as view;
 
 use sq_base::{Seq, Sort};
 use sq_sequent::{
@@ -19,13 +19,13 @@ use std::alloc::Global;
 #[tactic(auto, using(sq_sequent::proofs::Held::held_rules))]
 fn in_goal(alloc: Global, s: &Sequent, by: &Rewriting) -> Result<Seq<Sequent>, RuleFault>
     ensures { Gives RuleFault.NoMemory sequent_trees result
-        (judged (row.goal_rewritten (sequent_tree s.now) (rewriting_tree by.now) (the_goal (sequent_tree s.now)))) }
+        (judged (spec.goal_rewritten (sequent_tree s.now) (rewriting_tree by.now) (view.goal_of (sequent_tree s.now)))) }
 {
     match goal_of(s) {
-        Some(goal) => match rewrite(alloc, by, goal) {
-            Ok(goal) => one_premise(alloc, asking(alloc, s, goal)?),
-            Err(fault) => Err(fault),
-        },
+        Some(goal) => {
+            let goal = rewrite(alloc, by, goal)?;
+            one_premise(alloc, asking(alloc, s, goal)?)
+        }
         None => Err(RuleFault::Shape),
     }
 }
@@ -33,13 +33,13 @@ fn in_goal(alloc: Global, s: &Sequent, by: &Rewriting) -> Result<Seq<Sequent>, R
 #[tactic(auto, using(sq_sequent::proofs::RewriteLimits::hyp_rules))]
 fn in_hyp(alloc: Global, s: &Sequent, k: u32, by: &Rewriting) -> Result<Seq<Sequent>, RuleFault>
     ensures { Gives RuleFault.NoMemory sequent_trees result
-        (judged (row.hyp_rewritten (sequent_tree s.now) k (rewriting_tree by.now) (the_hyp (sequent_tree s.now) k))) }
+        (judged (spec.hyp_rewritten (sequent_tree s.now) k (rewriting_tree by.now) (view.hyp_of (sequent_tree s.now) k))) }
 {
     match hyp_of(s, k) {
-        Some(hyp) => match rewrite(alloc, by, hyp) {
-            Ok(hyp) => one_premise(alloc, with_hyp_at(alloc, s, k, hyp)?),
-            Err(fault) => Err(fault),
-        },
+        Some(hyp) => {
+            let hyp = rewrite(alloc, by, hyp)?;
+            one_premise(alloc, with_hyp_at(alloc, s, k, hyp)?)
+        }
         None => Err(RuleFault::Shape),
     }
 }
@@ -52,7 +52,7 @@ fn with_rewritten_items(
     items: &[Both],
     by: &Rewriting,
 ) -> Result<Seq<Sequent>, RuleFault>
-    ensures { let rewritten = map (row.item_rewritten (rewriting_tree by.now)) (map item_of items.now) in
+    ensures { let rewritten = map (spec.item_rewritten (rewriting_tree by.now)) (map item_of items.now) in
         Gives RuleFault.NoMemory sequent_trees result
         (within_limits (equiv vars.now (map term_tree hyps.now) (map (map item_of) known.now) rewritten ∷ [])) }
 {
@@ -64,7 +64,7 @@ fn with_rewritten_items(
 
 fn in_items(alloc: Global, s: &Sequent, by: &Rewriting) -> Result<Seq<Sequent>, RuleFault>
     ensures { Gives RuleFault.NoMemory sequent_trees result
-        (judged (row.items_rewritten (sequent_tree s.now) (rewriting_tree by.now))) }
+        (judged (spec.items_rewritten (sequent_tree s.now) (rewriting_tree by.now))) }
 {
     match s {
         Sequent::Trace { .. } | Sequent::Local { .. } => Err(RuleFault::Shape),
@@ -92,7 +92,7 @@ fn at_target(
     by: &Rewriting,
 ) -> Result<Seq<Sequent>, RuleFault>
     ensures { Gives RuleFault.NoMemory sequent_trees result
-        (judged (row.rewriting_at (sequent_tree s.now) h target (rewriting_tree by.now))) }
+        (judged (spec.rewriting_at (sequent_tree s.now) h target (rewriting_tree by.now))) }
 {
     match target {
         Target::Goal => in_goal(alloc, s, by),
@@ -117,8 +117,8 @@ pub fn rew(
     target: Target,
 ) -> Result<Seq<Sequent>, RuleFault>
     ensures { Gives RuleFault.NoMemory sequent_trees result
-        (judged (row.rew_row (sequent_tree s.now) h target
-        (row.rewriting_of (sequent_tree s.now) dir (the_hyp (sequent_tree s.now) h)))) }
+        (judged (spec.rew_row (sequent_tree s.now) h target
+        (spec.rewriting_of (sequent_tree s.now) dir (view.hyp_of (sequent_tree s.now) h)))) }
 {
     match rewriting_in(s, dir, hyp_of(s, h)) {
         Some(by) => at_target(alloc, s, h, target, &by),

@@ -1,36 +1,33 @@
 // The row that reads a sequent of both sides on each of them.
 ghost use Rattle.std.specs.Prelude.{◌≡◌, map, MatchResult, [], ◌∷◌};
 ghost use Rattle.sq_base.specs.Gives.{Gives};
-ghost use Rattle.sq_term.specs.declared.term.Side.TheVariants as side;
+ghost use Rattle.sq_term.specs.declared.term.Side.TheVariants as of;
 ghost use Rattle.sq_term.specs.View.{term_tree};
 ghost use Rattle.sq_subst.specs.Projection.{projected};
-ghost use Rattle.sq_system.specs.Sequents.{sequent_tree};
+ghost use Rattle.sq_system.specs.Sequents.{local, sequent_tree};
 ghost use Rattle.sq_system.specs.Sizes.{fits};
-ghost use Rattle.sq_sequent.specs.Sides.{on_side as the_side, side_fits, sides_fit, IsPastLimits};
-ghost use Rattle.sq_sequent.specs.Logic as row;
+ghost use Rattle.sq_sequent.specs.Logic as spec;
 ghost use Rattle.sq_sequent.specs.Logic.{sequent_trees, judged, within_limits};
+ghost use Rattle.sq_sequent.specs.Sides as sides;
+ghost use Rattle.sq_sequent.specs.Sides.{side_fits, sides_fit, IsPastLimits};
 
 use sq_base::{Seq, Sort};
-use sq_sequent::{MAX_NODES, RuleFault, Sequent, two_premises};
+use sq_sequent::{MOST_NODES, RuleFault, Sequent, two_premises};
 use sq_subst::project;
-use sq_term::{Side, SizeFault, Term};
+use sq_term::{Side, Term};
 use std::alloc::Global;
 
 // A side of the term, TooLarge where no sequent may hold it.
-#[tactic(auto, using(sq_sequent::proofs::SideLimits::side_rules))]
+#[tactic(auto, using(crate::proofs::SideLimits::side_rules))]
 fn side_of(alloc: Global, t: &Term, side: Side) -> Result<Term, RuleFault>
     ensures { MatchResult result
         (λ c. term_tree c ≡ projected side (term_tree t.now))
         (λ e. IsPastLimits e (side_fits side (term_tree t.now))) }
 {
-    match project(alloc, t, side, MAX_NODES) {
-        Ok(t) => Ok(t),
-        Err(SizeFault::TooLarge) => Err(RuleFault::TooLarge),
-        Err(SizeFault::NoMemory) => Err(RuleFault::NoMemory),
-    }
+    Ok(project(alloc, t, side, MOST_NODES)?)
 }
 
-#[tactic(auto, using(sq_sequent::proofs::SideLimits::sides_rules))]
+#[tactic(auto, using(crate::proofs::SideLimits::sides_rules))]
 fn sides_of(alloc: Global, terms: &[Term], side: Side) -> Result<Seq<Term>, RuleFault>
     ensures { MatchResult result
         (λ c. map term_tree c ≡ map (projected side) (map term_tree terms.now))
@@ -43,7 +40,7 @@ fn sides_of(alloc: Global, terms: &[Term], side: Side) -> Result<Seq<Term>, Rule
     Ok(out)
 }
 
-#[tactic(auto, using(sq_sequent::proofs::SideLimits::past_rules))]
+#[tactic(auto, using(crate::proofs::SideLimits::past_rules))]
 fn on_side(
     alloc: Global,
     side: Side,
@@ -51,7 +48,7 @@ fn on_side(
     hyps: &[Term],
     goal: &Term,
 ) -> Result<Sequent, RuleFault>
-    ensures { let there = the_side side vars.now (map term_tree hyps.now) (term_tree goal.now) in
+    ensures { let there = sides.on_side side (local of.Both vars.now (map term_tree hyps.now) (term_tree goal.now)) in
         MatchResult result (λ p. sequent_tree p ≡ there) (λ e. IsPastLimits e (fits there)) }
 {
     let vars = Seq::from_slice(alloc, vars.as_slice())?;
@@ -75,9 +72,9 @@ fn each_side(
     hyps: &[Term],
     goal: &Term,
 ) -> Result<Seq<Sequent>, RuleFault>
-    ensures { let left = the_side side.Left vars.now (map term_tree hyps.now) (term_tree goal.now) in
-        let right = the_side side.Right vars.now (map term_tree hyps.now) (term_tree goal.now) in
-        Gives RuleFault.NoMemory sequent_trees result (within_limits (left ∷ right ∷ [])) }
+    ensures { let whole = local of.Both vars.now (map term_tree hyps.now) (term_tree goal.now) in
+        Gives RuleFault.NoMemory sequent_trees result
+        (within_limits (sides.on_side of.Left whole ∷ sides.on_side of.Right whole ∷ [])) }
 {
     match on_side(alloc, Side::Left, vars, hyps, goal) {
         Ok(left) => match on_side(alloc, Side::Right, vars, hyps, goal) {
@@ -90,7 +87,7 @@ fn each_side(
 
 /// Of a sequent of both sides: what it says on each.
 pub fn proj(alloc: Global, s: &Sequent) -> Result<Seq<Sequent>, RuleFault>
-    ensures { Gives RuleFault.NoMemory sequent_trees result (judged (row.proj_row (sequent_tree s.now))) }
+    ensures { Gives RuleFault.NoMemory sequent_trees result (judged (spec.proj_row (sequent_tree s.now))) }
 {
     match s {
         Sequent::Local {

@@ -2,14 +2,15 @@
 ghost use Rattle.std.specs.Prelude.{Some, map, length};
 ghost use Rattle.sq_base.specs.Gives.{Gives};
 ghost use Rattle.sq_term.specs.View.{term_tree};
-ghost use Rattle.sq_system.specs.Environments.{env_tree};
 ghost use Rattle.sq_system.specs.Sequents.{sequent_tree};
 ghost use Rattle.sq_sequent.specs.Logic.{sequent_trees, judged};
-ghost use Rattle.sq_sequent.specs.Uses as row;
+ghost use Rattle.sq_sequent.specs.Site.{site_tree};
+ghost use Rattle.sq_sequent.specs.Uses as spec;
 
 use sq_base::Seq;
 use sq_sequent::{
-    Env, RuleFault, Sequent, TermArg, copy_assuming, instance_on, messages_in, offered, one_premise,
+    RuleFault, Sequent, Site, TermArg, assuming, copy_sequent, instance_on, messages_in, offered,
+    one_premise,
 };
 use sq_term::{Side, Term};
 use std::alloc::Global;
@@ -23,31 +24,32 @@ fn assuming_instance(
     messages: &[Term],
 ) -> Result<Seq<Sequent>, RuleFault>
     ensures { Gives RuleFault.NoMemory sequent_trees result
-        (judged (row.used_with (sequent_tree s.now) side (Some (term_tree formula.now)) (Some (map term_tree messages.now)))) }
+        (judged (spec.used_with (sequent_tree s.now) side (Some (term_tree formula.now)) (Some (map term_tree messages.now)))) }
 {
-    match instance_on(alloc, side, formula, messages) {
-        Ok(said) => one_premise(alloc, copy_assuming(alloc, s, said)?),
-        Err(fault) => Err(fault),
-    }
+    let said = instance_on(alloc, side, formula, messages)?;
+    one_premise(alloc, assuming(copy_sequent(alloc, s)?, said)?)
 }
 
 fn use_on_side(
     alloc: Global,
-    s: &Sequent,
+    at: &Site,
     side: Side,
-    env: &Env,
-    goal: u32,
     k: u32,
     args: &[TermArg],
 ) -> Result<Seq<Sequent>, RuleFault>
-    ensures { Gives RuleFault.NoMemory sequent_trees result
-        (judged (row.used_with (sequent_tree s.now) side
-        (row.offered (env_tree env.now) goal k (length args.now))
-        (row.messages_in (env_tree env.now) goal (sequent_tree s.now) args.now))) }
+    ensures { let here = site_tree at.now in
+        Gives RuleFault.NoMemory sequent_trees result
+        (judged (spec.used_with here.sequent side (spec.offered here k (length args.now)) (spec.messages_in here args.now))) }
 {
-    match offered(env, goal, k, args.len()) {
-        Some(formula) => match messages_in(alloc, env, goal, s, args)? {
-            Some(messages) => assuming_instance(alloc, s, side, formula, messages.as_slice()),
+    match offered(at, k, args.len()) {
+        Some(formula) => match messages_in(alloc, at, args)? {
+            Some(messages) => assuming_instance(
+                alloc,
+                at.sequent,
+                side,
+                formula,
+                messages.as_slice(),
+            ),
             None => Err(RuleFault::Shape),
         },
         None => Err(RuleFault::Shape),
@@ -58,17 +60,15 @@ fn use_on_side(
 #[tactic(auto, unfolding(sq_sequent::specs::Uses::use_row))]
 pub fn use_statement(
     alloc: Global,
-    s: &Sequent,
-    env: &Env,
-    goal: u32,
+    at: &Site,
     k: u32,
     args: &[TermArg],
 ) -> Result<Seq<Sequent>, RuleFault>
     ensures { Gives RuleFault.NoMemory sequent_trees result
-        (judged (row.use_row (env_tree env.now) goal (sequent_tree s.now) k args.now)) }
+        (judged (spec.use_row (site_tree at.now) k args.now)) }
 {
-    match s {
-        Sequent::Local { side, .. } => use_on_side(alloc, s, *side, env, goal, k, args),
+    match at.sequent {
+        Sequent::Local { side, .. } => use_on_side(alloc, at, *side, k, args),
         Sequent::Trace { .. } | Sequent::Equiv { .. } => Err(RuleFault::Shape),
     }
 }

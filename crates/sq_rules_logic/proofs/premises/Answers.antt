@@ -1,10 +1,16 @@
-use Rattle.sq_sequent.proofs.LogicSound.{logic_sound}
-use Rattle.sq_sequent.proofs.Preserved.{premises_well_formed}
+use Rattle.sq_sequent.specs.Site.{site_tree}
+use Rattle.sq_rules_logic.proofs.Answering.{answers, premises_formed, premises_suffice}
 use Rattle.sq_rules_logic.proofs.premises.Goals as goal
 
-pub returns-in-Ok-clause-sound : goal.returns-in-Ok-clause-sound
-returns-in-Ok-clause-sound c = logic_sound _ _ _ _ _ c.args.env.now.well_formed c.in-Ok.ensures
+pub returns-clause-rows : goal.returns-clause-rows
+returns-clause-rows c = answers (site_tree c.args.at.now) c.args.step.now c.row.result c.row.ensures
 
-pub returns-in-Ok-clause-well_formed : goal.returns-in-Ok-clause-well_formed
-returns-in-Ok-clause-well_formed c =
-    premises_well_formed _ _ _ _ _ c.args.env.now.well_formed c.in-Ok.ensures
+pub returns-clause-well_formed : goal.returns-clause-well_formed
+returns-clause-well_formed c =
+    premises_formed (site_tree c.args.at.now) c.args.step.now c.args.at.now.env.now.well_formed
+    c.row.result c.row.ensures
+
+pub returns-clause-sound : goal.returns-clause-sound
+returns-clause-sound c =
+    premises_suffice (site_tree c.args.at.now) c.args.step.now c.args.at.now.env.now.well_formed
+    c.row.result c.row.ensures

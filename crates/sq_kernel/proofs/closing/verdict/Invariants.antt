@@ -6,4 +6,4 @@ use Rattle.sq_kernel.proofs.closing.verdict.Given as goal
 
 abbrev pub invariant-steps : goal.invariant-steps
 invariant-steps l =
-    (l.number ≡ l.step-index) × (verdict_of l.steps (env_tree l.env) l.goal ≡ verdict_from (env_tree l.env) l.goal l.number (drop l.step-index l.steps) (sequent_trees (reverse l.stack.items)))
+    (l.number ≡ l.step-index) × (verdict_of (env_tree l.env) l.goal l.steps ≡ verdict_from (env_tree l.env) l.goal l.number (drop l.step-index l.steps) (sequent_trees (reverse l.stack.items)))

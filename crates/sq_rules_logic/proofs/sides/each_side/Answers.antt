@@ -1,4 +1,4 @@
-use Rattle.sq_sequent.proofs.SideLimits.{first-refused, second-refused}
+use Rattle.sq_rules_logic.proofs.SideLimits.{first-refused, second-refused}
 use Rattle.sq_rules_logic.proofs.sides.each_side.Goals as goal
 
 pub returns-in-Err-on_side : goal.returns-in-Err-on_side

@@ -1,6 +1,6 @@
 use Rattle.std.proofs.Common.{map}
 use Rattle.sq_term.specs.View.{term_tree}
-use Rattle.sq_sequent.proofs.SideLimits.{hyps-past}
+use Rattle.sq_rules_logic.proofs.SideLimits.{hyps-past}
 use Rattle.sq_rules_logic.proofs.sides.on_side.Goals as goal
 
 pub returns-in-Err : goal.returns-in-Err
