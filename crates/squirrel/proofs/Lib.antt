@@ -4,6 +4,7 @@ mod Scans
 mod Chains
 mod Sentences
 mod Listing
+mod Numbers
 mod Declared
 mod Grammars
 mod Tokens

@@ -1,5 +1,7 @@
 -- What the scanner's words come to.
-use Rattle.std.proofs.Common.{◌≡◌, ◌⊎◌, inl, inr, ◌<◌, ℕ, zero, suc, Bool, true, false, ◌&&◌, ◌||◌, List, [], ◌∷◌, refl, sym, subst, arith, nat_lt, codes}
+use Rattle.std.proofs.Common.{◌≡◌, ◌⊎◌, inl, inr, ◌<◌, ℕ, zero, suc, Bool, true, false, ◌||◌}
+use Rattle.std.proofs.Common.{List, [], ◌∷◌, refl, sym, subst, arith, nat_lt, codes}
+use Rattle.std.proofs.lemmas.Bool.{and_parts}
 use Rattle.std.proofs.lemmas.Bool.Decides.{nat_tests}
 use Rattle.std.specs.List.{list_all}
 use Rattle.std.specs.Str.{IsAscii, IsUtf8, bytes_eq}
@@ -11,31 +13,33 @@ use Rattle.squirrel.specs.Scanning.{is_start, is_part, is_word, is_mark, is_toke
 part_is_ascii : (b : ℕ) → is_part b ≡ true → b < 128
 part_is_ascii b h = grind (arith, nat_tests)
 
-pub both : (a b : Bool) → a && b ≡ true → (a ≡ true) × (b ≡ true)
-both true true h = (refl, refl)
-both true false h = absurd (cc (h))
-both false b h = absurd (cc (h))
-
 pub either : (a b : Bool) → a || b ≡ true → (a ≡ true) ⊎ (b ≡ true)
 either true b h = inl refl
 either false b h = inr h
 
 parts_are_ascii : (bs : List ℕ) → list_all is_part bs ≡ true → IsAscii bs
 parts_are_ascii [] h i = IsAscii-nil i
-parts_are_ascii (b ∷ bs) h zero = part_is_ascii b (both (is_part b) (list_all is_part bs) h).0
-parts_are_ascii (b ∷ bs) h (suc i) = parts_are_ascii bs (both (is_part b) (list_all is_part bs) h).1 i
+parts_are_ascii (b ∷ bs) h zero = part_is_ascii b (and_parts (is_part b) (list_all is_part bs) h).0
+parts_are_ascii (b ∷ bs) h (suc i) =
+    parts_are_ascii bs (and_parts (is_part b) (list_all is_part bs) h).1 i
 
 word_is_utf8 : (t : List ℕ) → is_word t ≡ true → IsUtf8 t
 word_is_utf8 [] h = absurd (cc (h))
-word_is_utf8 (b ∷ bs) h = IsUtf8-from_ascii (b ∷ bs) (parts_are_ascii (b ∷ bs) (both (is_start b) (list_all is_part (b ∷ bs)) h).1)
+word_is_utf8 (b ∷ bs) h =
+    IsUtf8-from_ascii (b ∷ bs)
+    (parts_are_ascii (b ∷ bs) (and_parts (is_start b) (list_all is_part (b ∷ bs)) h).1)
 
 ascii_from_test : (bs : List ℕ) → list_all (λ b. nat_lt b 128) bs ≡ true → IsAscii bs
 ascii_from_test [] h i = IsAscii-nil i
-ascii_from_test (b ∷ bs) h zero = let t = (both (nat_lt b 128) (list_all (λ b. nat_lt b 128) bs) h).0 in grind (arith, nat_tests)
-ascii_from_test (b ∷ bs) h (suc i) = ascii_from_test bs (both (nat_lt b 128) (list_all (λ b. nat_lt b 128) bs) h).1 i
+ascii_from_test (b ∷ bs) h zero = let t =
+    (and_parts (nat_lt b 128) (list_all (λ b. nat_lt b 128) bs) h).0 in grind (arith, nat_tests)
+ascii_from_test (b ∷ bs) h (suc i) =
+    ascii_from_test bs (and_parts (nat_lt b 128) (list_all (λ b. nat_lt b 128) bs) h).1 i
 
 same_text : (t u : List ℕ) → list_all (λ b. nat_lt b 128) u ≡ true → bytes_eq t u ≡ true → IsUtf8 t
-same_text t u ascii same = subst IsUtf8 (sym ((bytes_eq-Decides t u).0 same)) (IsUtf8-from_ascii u (ascii_from_test u ascii))
+same_text t u ascii same =
+    subst IsUtf8 (sym ((bytes_eq-Decides t u).0 same))
+    (IsUtf8-from_ascii u (ascii_from_test u ascii))
 
 mark_is_utf8 : (t : List ℕ) → is_mark t ≡ true → IsUtf8 t
 mark_is_utf8 t h =

@@ -1,6 +1,6 @@
 -- What is answered for a file that was read.
-use Rattle.std.specs.Prelude.{ℕ, ◌+◌, List, [], ◌∷◌, ◌++◌, take, Option, None, Some, codes, decimal, if◌then◌else◌, ◌==◌}
-use Rattle.std.specs.Option.{option_and_then}
+use Rattle.std.specs.Prelude.{ℕ, ◌+◌, ◌==◌, List, [], ◌∷◌, ◌++◌, take, Option, None, Some, codes}
+use Rattle.std.specs.Prelude.{decimal, if◌then◌else◌}
 use Rattle.std.specs.List.{flat_map}
 use Rattle.sq_edge.specs.declared.status.Status.{Status}
 use Rattle.sq_edge.specs.declared.status.Status.TheVariants.{Done, Refused, Limit}
@@ -10,9 +10,13 @@ use Rattle.squirrel.specs.declared.script.Lemma.{Lemma}
 use Rattle.squirrel.specs.declared.script.Script.{Script}
 use Rattle.squirrel.specs.declared.runner.Trouble.{Trouble}
 use Rattle.squirrel.specs.declared.runner.Trouble.TheVariants.{NotBuilt, Shape, OpenGoals}
-use Rattle.squirrel.specs.Scanning.{sentences_of}
-use Rattle.squirrel.specs.Scripts.{script_of}
+use Rattle.squirrel.specs.Scripts.{form_of}
 use Rattle.squirrel.specs.Running.{trouble_of}
+use Rattle.squirrel.specs.Headline.{proved_line}
+
+-- the most bytes of a file
+abbrev pub most_bytes : ℕ
+most_bytes = 1048576
 
 -- how a file that was read can end
 abbrev pub IsVerdict : Status → Type 0
@@ -20,10 +24,6 @@ IsVerdict Done = Unit {0}
 IsVerdict Refused = Unit {0}
 IsVerdict Limit = Unit {0}
 IsVerdict status = ⊥
-
--- what a file holds, where its bytes are of the form
-unfoldable pub form_of : List ℕ → Option Script
-form_of bytes = option_and_then script_of (sentences_of bytes)
 
 abbrev pub newlines : List ℕ → ℕ
 newlines [] = 0
@@ -34,15 +34,15 @@ abbrev pub line_of : List ℕ → ℕ → ℕ
 line_of bytes at = newlines (take at bytes) + 1
 
 abbrev pub place_text : List ℕ → Place → List ℕ
-place_text bytes place = codes "sentence " ++ decimal place.number ++ codes ", line " ++ decimal (line_of bytes place.at) ++ codes ": "
+place_text bytes place =
+    codes "sentence " ++ decimal place.number ++ codes ", line " ++ decimal (line_of bytes place.at)
+    ++ codes ": "
 
 abbrev pub trouble_text : List ℕ → Trouble → List ℕ
 trouble_text bytes NotBuilt = codes "NotBuilt"
 trouble_text bytes (Shape place) = place_text bytes place ++ codes "Shape"
-trouble_text bytes (OpenGoals n place) = place_text bytes place ++ codes "OpenGoals(" ++ decimal n ++ codes ")"
-
-abbrev pub proved_line : List ℕ → List ℕ
-proved_line name = codes "proved " ++ name ++ 10 ∷ []
+trouble_text bytes (OpenGoals n place) =
+    place_text bytes place ++ codes "OpenGoals(" ++ decimal n ++ codes ")"
 
 -- the names of the lemmas, in the order of the file
 abbrev pub name_of : Lemma → List ℕ
@@ -50,11 +50,16 @@ name_of l = l.name
 
 -- a line for each lemma
 abbrev pub listing : List ℕ → List Lemma → Answer
-listing text lemmas = record { status = Done; text = text ++ flat_map (λ l. proved_line (name_of l)) lemmas }
+listing text lemmas =
+    record { status = Done; text = text ++ flat_map (λ l. proved_line (name_of l)) lemmas }
 
 -- one line with the trouble
 abbrev pub refusal : List ℕ → List ℕ → Trouble → Answer
-refusal text bytes trouble = record { status = Refused; text = text ++ codes "refused: " ++ trouble_text bytes trouble ++ 10 ∷ [] }
+refusal text bytes trouble =
+    record {
+      status = Refused;
+      text = text ++ codes "refused: " ++ trouble_text bytes trouble ++ 10 ∷ [];
+    }
 
 abbrev pub answer_of_run : List ℕ → Script → Option Trouble → Answer
 answer_of_run bytes script None = listing [] script.lemmas

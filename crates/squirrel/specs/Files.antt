@@ -1,12 +1,14 @@
--- The form of a file: constants, and then lemmas with their proofs. Its sentences, and what it declares and claims.
-use Rattle.std.specs.Prelude.{◌≡◌, ℕ, Bool, true, false, ◌+◌, ◌≤◌, List, [], ◌∷◌, ◌++◌, length, map, flat_map, unwrap_or, codes}
+-- The form of a file: constants, and then lemmas with their proofs. Its sentences, and what it
+-- declares and claims.
+use Rattle.std.specs.Prelude.{◌≡◌, ℕ, Bool, true, false, ◌+◌, ◌≤◌, List, [], ◌∷◌, ◌++◌, length}
+use Rattle.std.specs.Prelude.{map, flat_map, unwrap_or, codes}
 use Rattle.std.specs.List.{list_any, list_all}
 use Rattle.std.specs.Str.{bytes_eq}
 use Rattle.sq_base.specs.declared.sort.Sort.TheVariants.{Boolean}
 use Rattle.sq_sym.specs.declared.symbol.Symbol.TheVariants.{Fun, Statement}
 use Rattle.sq_term.specs.declared.signature.FunDecl.{FunDecl}
 use Rattle.sq_term.specs.Measure.{depth}
-use Rattle.sq_system.specs.Environments.{plain_function, builtin_functions}
+use Rattle.sq_typing.specs.Functions.{plain_function, builtin_functions}
 use Rattle.squirrel.specs.declared.scan.Sentence.{Sentence}
 use Rattle.squirrel.specs.declared.formula.Connective.{Connective}
 use Rattle.squirrel.specs.declared.formula.Connective.TheVariants.{And, Implies}
@@ -17,8 +19,9 @@ use Rattle.squirrel.specs.declared.script.Task.{Task}
 use Rattle.squirrel.specs.declared.script.Lemma.{Lemma}
 use Rattle.squirrel.specs.declared.script.Stage.TheVariants.{Outside}
 use Rattle.squirrel.specs.declared.script.Script.{Script}
-use Rattle.squirrel.specs.Formulas.{Declarations, function_of}
-use Rattle.squirrel.specs.Grammar.{Conj, single, both, Formula, conj, implies, formula_words, formula_tree}
+use Rattle.squirrel.specs.Formulas.{Declarations, function_of, most_depth}
+use Rattle.squirrel.specs.Grammar.{Conj, single, both, Formula, conj, implies, formula_words}
+use Rattle.squirrel.specs.Grammar.{formula_tree}
 use Rattle.squirrel.specs.Scripts.{is_name}
 
 -- `abstract NAME : boolean.`, with its sentence's place
@@ -57,7 +60,8 @@ claim_words name formula = codes "lemma" ∷ name ∷ codes ":" ∷ formula_word
 
 abbrev pub command_words : Command → List (List ℕ)
 command_words (Intro label) = codes "intro" ∷ label ∷ []
-command_words (Destruct hyp first second) = codes "destruct" ∷ hyp ∷ codes "as" ∷ first ∷ second ∷ []
+command_words (Destruct hyp first second) =
+    codes "destruct" ∷ hyp ∷ codes "as" ∷ first ∷ second ∷ []
 command_words Split = codes "split" ∷ []
 command_words Assumption = codes "assumption" ∷ []
 
@@ -69,7 +73,8 @@ command_sentence p = sentence (command_words p.command) p.at
 
 abbrev pub claim_sentences : Claim → List Sentence
 claim_sentences c =
-    sentence (claim_words c.name c.formula) c.at ∷ sentence (codes "Proof" ∷ []) c.proof ∷ (map command_sentence c.commands ++ (sentence (codes "Qed" ∷ []) c.qed ∷ []))
+    sentence (claim_words c.name c.formula) c.at ∷ sentence (codes "Proof" ∷ []) c.proof
+    ∷ (map command_sentence c.commands ++ (sentence (codes "Qed" ∷ []) c.qed ∷ []))
 
 abbrev pub file_sentences : File → List Sentence
 file_sentences f = map constant_sentence f.constants ++ flat_map claim_sentences f.claims
@@ -104,7 +109,8 @@ abbrev pub claim_table : ℕ → List (List ℕ) → Declarations
 claim_table n [] = []
 claim_table n (name ∷ names) = (name, Statement n) ∷ claim_table (n + 1) names
 
--- the constants of these names: their numbers follow those of the functions that every signature begins with
+-- the constants of these names: their numbers follow those of the functions that every signature
+-- begins with
 abbrev pub constants_of : List (List ℕ) → Declarations
 constants_of names = constant_table (length builtin_functions) names
 
@@ -116,12 +122,14 @@ pub record IsNew (constants claims : List (List ℕ)) (name : List ℕ) : Type 0
 
 abbrev pub AreConstants : List (List ℕ) → List Constant → Type 0
 AreConstants before [] = Unit {0}
-AreConstants before (c ∷ constants) = IsNew before [] c.name × AreConstants (before ++ c.name ∷ []) constants
+AreConstants before (c ∷ constants) =
+    IsNew before [] c.name × AreConstants (before ++ c.name ∷ []) constants
 
 -- the labels of a command are identifiers
 abbrev pub IsCommand : Command → Type 0
 IsCommand (Intro label) = is_name label ≡ true
-IsCommand (Destruct hyp first second) = (is_name hyp ≡ true) × (is_name first ≡ true) × (is_name second ≡ true)
+IsCommand (Destruct hyp first second) =
+    (is_name hyp ≡ true) × (is_name first ≡ true) × (is_name second ≡ true)
 IsCommand Split = Unit {0}
 IsCommand Assumption = Unit {0}
 
@@ -133,12 +141,13 @@ AreCommands (p ∷ commands) = IsCommand p.command × AreCommands commands
 pub record IsClaim (constants claims : List (List ℕ)) (c : Claim) : Type 0 where
   pub new : IsNew constants claims c.name
   pub declared : list_all (λ x. is_among x constants) (formula_names c.formula) ≡ true
-  pub shallow : depth (formula_tree (constants_of constants) c.formula) ≤ 256
+  pub shallow : depth (formula_tree (constants_of constants) c.formula) ≤ most_depth
   pub commands : AreCommands c.commands
 
 abbrev pub AreClaims : List (List ℕ) → List (List ℕ) → List Claim → Type 0
 AreClaims constants before [] = Unit {0}
-AreClaims constants before (c ∷ claims) = IsClaim constants before c × AreClaims constants (before ++ c.name ∷ []) claims
+AreClaims constants before (c ∷ claims) =
+    IsClaim constants before c × AreClaims constants (before ++ c.name ∷ []) claims
 
 pub record IsFile (f : File) : Type 0 where
   pub constants : AreConstants [] f.constants
@@ -150,7 +159,11 @@ abbrev pub number_in : Declarations → List ℕ → ℕ
 number_in table name = unwrap_or (function_of table name) 0
 
 abbrev pub in_front : ℕ → Connective → Chain → Chain
-in_front f k chain = record { links = record { function = f; connective = k } ∷ chain.links; last = chain.last }
+in_front f k chain =
+    record {
+      links = record { function = f; connective = k } ∷ chain.links;
+      last = chain.last;
+    }
 
 abbrev pub conj_chain : Declarations → Conj → Chain
 conj_chain table (single x) = record { links = []; last = number_in table x }
@@ -158,7 +171,8 @@ conj_chain table (both x c) = in_front (number_in table x) And (conj_chain table
 
 abbrev pub implied_chain : Declarations → Conj → Chain → Chain
 implied_chain table (single x) back = in_front (number_in table x) Implies back
-implied_chain table (both x c) back = in_front (number_in table x) And (implied_chain table c back)
+implied_chain table (both x c) back =
+    in_front (number_in table x) And (implied_chain table c back)
 
 -- the names of a formula and the connectives between them
 abbrev pub formula_chain : Declarations → Formula → Chain
@@ -168,16 +182,24 @@ formula_chain table (implies c f) = implied_chain table c (formula_chain table f
 -- the commands behind so many sentences
 abbrev pub tasks_from : ℕ → List Placed → List Task
 tasks_from n [] = []
-tasks_from n (p ∷ commands) = record { command = p.command; place = record { number = n + 1; at = p.at } } ∷ tasks_from (n + 1) commands
+tasks_from n (p ∷ commands) =
+    record { command = p.command; place = record { number = n + 1; at = p.at } }
+    ∷ tasks_from (n + 1) commands
 
 -- a lemma behind so many sentences
 abbrev pub claim_lemma : Declarations → ℕ → Claim → Lemma
 claim_lemma table n c =
-    record { name = c.name; formula = formula_chain table c.formula; tasks = tasks_from (n + 2) c.commands; qed = record { number = n + length c.commands + 3; at = c.qed } }
+    record {
+      name = c.name;
+      formula = formula_chain table c.formula;
+      tasks = tasks_from (n + 2) c.commands;
+      qed = record { number = n + length c.commands + 3; at = c.qed };
+    }
 
 abbrev pub claim_lemmas : Declarations → ℕ → List Claim → List Lemma
 claim_lemmas table n [] = []
-claim_lemmas table n (c ∷ claims) = claim_lemma table n c ∷ claim_lemmas table (n + length c.commands + 3) claims
+claim_lemmas table n (c ∷ claims) =
+    claim_lemma table n c ∷ claim_lemmas table (n + length c.commands + 3) claims
 
 abbrev pub constant_functions : List (List ℕ) → List FunDecl
 constant_functions [] = []
@@ -185,11 +207,17 @@ constant_functions (name ∷ names) = plain_function 0 Boolean ∷ constant_func
 
 abbrev pub script_with : List (List ℕ) → List (List ℕ) → List Lemma → Script
 script_with constants claims lemmas =
-    record { table = constants_of constants ++ claim_table 0 claims; funs = builtin_functions ++ constant_functions constants; lemmas = lemmas; stage = Outside }
+    record {
+      table = constants_of constants ++ claim_table 0 claims;
+      funs = builtin_functions ++ constant_functions constants;
+      lemmas = lemmas;
+      stage = Outside;
+    }
 
 abbrev pub file_script : File → Script
 file_script f =
-    script_with (map constant_name f.constants) (map claim_name f.claims) (claim_lemmas (constants_of (map constant_name f.constants)) (length f.constants) f.claims)
+    script_with (map constant_name f.constants) (map claim_name f.claims)
+    (claim_lemmas (constants_of (map constant_name f.constants)) (length f.constants) f.claims)
 
 -- the sentences are those of a file that holds this
 pub record IsFileOf (sentences : List Sentence) (script : Script) : Type 0 where

@@ -1,7 +1,9 @@
--- The grammar of formulas: `formula = conj ["=>" formula]` and `conj = NAME ["&&" conj]`, and the trees of both.
+-- The grammar of formulas: `formula = conj ["=>" formula]` and `conj = NAME ["&&" conj]`, and the
+-- trees of both.
 use Rattle.std.specs.Prelude.{ℕ, List, [], ◌∷◌, ◌++◌, codes, unwrap_or}
+use Rattle.sq_term.specs.Formulas as formula
 use Rattle.sq_term.specs.Syntax.{TermTree}
-use Rattle.squirrel.specs.Formulas.{Declarations, constant, conjunction, implication, function_of}
+use Rattle.squirrel.specs.Formulas.{Declarations, constant, function_of}
 
 pub data Conj : Type 0 where
   single : List ℕ → Conj
@@ -25,8 +27,8 @@ name_tree table x = constant (unwrap_or (function_of table x) 0)
 
 abbrev pub conj_tree : Declarations → Conj → TermTree
 conj_tree table (single x) = name_tree table x
-conj_tree table (both x c) = conjunction (name_tree table x) (conj_tree table c)
+conj_tree table (both x c) = formula.both (name_tree table x) (conj_tree table c)
 
 abbrev pub formula_tree : Declarations → Formula → TermTree
 formula_tree table (conj c) = conj_tree table c
-formula_tree table (implies c f) = implication (conj_tree table c) (formula_tree table f)
+formula_tree table (implies c f) = formula.implies (conj_tree table c) (formula_tree table f)

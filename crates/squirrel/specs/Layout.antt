@@ -1,5 +1,7 @@
--- Where the tokens of a file stand: each behind some blanks, each sentence in front of its stop, and blanks behind the last stop.
-use Rattle.std.specs.Prelude.{◌≡◌, ℕ, Bool, true, false, not, ◌&&◌, ◌+◌, List, [], ◌∷◌, ◌++◌, length, map, flat_map}
+-- Where the tokens of a file stand: each behind some blanks, each sentence in front of its stop,
+-- and blanks behind the last stop.
+use Rattle.std.specs.Prelude.{◌≡◌, ℕ, Bool, true, not, ◌&&◌, ◌+◌, List, [], ◌∷◌, ◌++◌}
+use Rattle.std.specs.Prelude.{length, map, flat_map}
 use Rattle.std.specs.List.{list_all}
 use Rattle.squirrel.specs.declared.scan.Sentence.{Sentence}
 use Rattle.squirrel.specs.Scanning.{is_blank, is_word, is_token}
@@ -31,7 +33,8 @@ layout_bytes f = flat_map line_bytes f.lines ++ f.blanks
 abbrev pub are_blank : List ℕ → Bool
 are_blank bytes = list_all is_blank bytes
 
--- two words that follow one another have a blank between them, since a token is as long as it can be
+-- two words that follow one another have a blank between them, since a token is as long as it can
+-- be
 abbrev pub is_apart : List ℕ → List ℕ → List ℕ → Bool
 is_apart before [] token = not (is_word before && is_word token)
 is_apart before (b ∷ blanks) token = true
@@ -58,7 +61,8 @@ pub record IsLayout (f : Layout) : Type 0 where
   pub lines : AreLines f.lines
   pub blank : are_blank f.blanks ≡ true
 
--- the place behind the first token of a sentence that begins at a place, or that of the sentence before it where it has no token
+-- the place behind the first token of a sentence that begins at a place, or that of the sentence
+-- before it where it has no token
 abbrev pub place_of : List Spaced → ℕ → ℕ → ℕ
 place_of [] at before = before
 place_of (s ∷ tokens) at before = at + length (spaced_bytes s)
@@ -70,7 +74,8 @@ token_of s = s.token
 abbrev pub sentences_at : List Line → ℕ → ℕ → List Sentence
 sentences_at [] at before = []
 sentences_at (l ∷ lines) at before =
-    record { words = map token_of l.tokens; at = place_of l.tokens at before } ∷ sentences_at lines (at + length (line_bytes l)) (place_of l.tokens at before)
+    record { words = map token_of l.tokens; at = place_of l.tokens at before }
+    ∷ sentences_at lines (at + length (line_bytes l)) (place_of l.tokens at before)
 
 abbrev pub layout_sentences : Layout → List Sentence
 layout_sentences f = sentences_at f.lines 0 0

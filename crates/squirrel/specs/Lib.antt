@@ -1,9 +1,11 @@
 pub mod Answering
+pub mod Depths
 pub mod Files
 pub mod Formulas
 pub mod Grammar
 pub mod Headline
 pub mod Layout
+pub mod Refusals
 pub mod Run
 pub mod Running
 pub mod Scanning

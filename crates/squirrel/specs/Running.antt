@@ -1,22 +1,19 @@
 -- What the commands of a proof do, and the first trouble of a file's proofs.
-use Rattle.std.specs.Prelude.{ℕ, zero, suc, Bool, true, false, not, ◌&&◌, ◌||◌, ◌+◌, nat_le, List, [], ◌∷◌, ◌++◌, length, map, Option, Some, None, Result, Ok, Err, if◌then◌else◌}
+use Rattle.std.specs.Prelude.{ℕ, zero, suc, Bool, ◌||◌, ◌+◌, nat_le, List, [], ◌∷◌, ◌++◌, length}
+use Rattle.std.specs.Prelude.{map}
+use Rattle.std.specs.Prelude.{Option, Some, None, Result, Ok, Err, if◌then◌else◌}
 use Rattle.std.specs.List.{list_any, list_all, position_from}
 use Rattle.std.specs.Str.{bytes_eq}
-use Rattle.sq_term.specs.declared.signature.FunDecl.{FunDecl}
-use Rattle.sq_term.specs.declared.term.Side.TheVariants.{Both}
 use Rattle.sq_term.specs.Syntax.{TermTree}
-use Rattle.sq_system.specs.declared.env.StmtKind.TheVariants as kind
-use Rattle.sq_system.specs.Sequents.{SequentTree, local, sequent_tree}
-use Rattle.sq_system.specs.Environments.{StmtTree, EnvTree}
-use Rattle.sq_ground.specs.Usable.{statement_at}
-use Rattle.sq_sequent.specs.declared.fault.RuleFault.{RuleFault}
-use Rattle.sq_sequent.specs.declared.fault.RuleFault.TheVariants as rule
-use Rattle.sq_sequent.specs.declared.step.Step.{Step}
-use Rattle.sq_sequent.specs.declared.step.Step.TheVariants as step
-use Rattle.sq_term.specs.Measure.{size}
 use Rattle.sq_term.specs.TreeEquality.{is_same_tree}
-use Rattle.sq_sequent.specs.Views.{hyps_of, goal_of}
-use Rattle.sq_kernel.specs.Closing.{calculus}
+use Rattle.sq_system.specs.Sequents.{SequentTree, sequent_tree, hyps_of}
+use Rattle.sq_system.specs.Sizes.{sequent_size}
+use Rattle.sq_system.specs.Statements.{EnvTree}
+use Rattle.sq_system.specs.Usable.{statement_at}
+use Rattle.sq_sequent.specs.declared.fault.RuleFault.{RuleFault}
+use Rattle.sq_sequent.specs.declared.step.Step.TheVariants as step
+use Rattle.sq_sequent.specs.Views.{goal_of}
+use Rattle.sq_kernel.specs.Closing.{site, calculus}
 use Rattle.squirrel.specs.declared.script.Command.{Command}
 use Rattle.squirrel.specs.declared.script.Command.TheVariants.{Intro, Destruct, Split, Assumption}
 use Rattle.squirrel.specs.declared.script.Place.{Place}
@@ -29,8 +26,8 @@ use Rattle.squirrel.specs.declared.goal.Refusal.{Refusal}
 use Rattle.squirrel.specs.declared.goal.Refusal.TheVariants as refusal
 use Rattle.squirrel.specs.declared.runner.Trouble.{Trouble}
 use Rattle.squirrel.specs.declared.runner.Trouble.TheVariants.{NotBuilt, Shape, OpenGoals}
-use Rattle.squirrel.specs.declared.formula.Chain.{Chain}
-use Rattle.squirrel.specs.Formulas.{tree_of}
+use Rattle.squirrel.specs.Refusals.{refusal_of}
+use Rattle.squirrel.specs.Scripts.{environment_of}
 
 -- an open goal: a sequent, and the labels of its hypotheses
 pub record GoalTree : Type 0 where
@@ -57,11 +54,15 @@ assumed_in hyps (Some goal) = position_from (is_same_tree goal) 0 hyps
 
 -- one step, and the labels of the hypotheses that it adds
 abbrev pub intro_plan : List (List ℕ) → List ℕ → Result Plan Refusal
-intro_plan labels x = if is_label labels x then Err refusal.NotBuilt else Ok (record { step = step.Impi; labels = x ∷ [] })
+intro_plan labels x =
+    if is_label labels x then Err refusal.NotBuilt
+    else Ok (record { step = step.Impi; labels = x ∷ [] })
 
 abbrev pub destruct_plan : Option ℕ → List (List ℕ) → List ℕ → List ℕ → Result Plan Refusal
 destruct_plan None labels x y = Err refusal.NotBuilt
-destruct_plan (Some h) labels x y = if is_label labels x || is_label labels y || bytes_eq x y then Err refusal.NotBuilt else Ok (record { step = step.Ande h; labels = x ∷ y ∷ [] })
+destruct_plan (Some h) labels x y =
+    if is_label labels x || is_label labels y || bytes_eq x y then Err refusal.NotBuilt
+    else Ok (record { step = step.Ande h; labels = x ∷ y ∷ [] })
 
 abbrev pub assumption_plan : Option ℕ → Result Plan Refusal
 assumption_plan None = Err refusal.Shape
@@ -77,40 +78,36 @@ plan_of Assumption g = assumption_plan (assumed_in (hyps_of g.sequent) (goal_of 
 abbrev pub with_labels : List (List ℕ) → List SequentTree → List GoalTree
 with_labels labels ps = map (λ p. record { sequent = p; labels = labels }) ps
 
-abbrev pub size_of_all : List TermTree → ℕ
-size_of_all [] = 0
-size_of_all (t ∷ ts) = size t + size_of_all ts
+-- the most nodes of an open goal
+abbrev pub most_nodes : ℕ
+most_nodes = 65536
 
-abbrev pub size_of_goal : Option TermTree → ℕ
-size_of_goal None = 0
-size_of_goal (Some t) = size t
-
--- the nodes of the hypotheses and of the goal
-abbrev pub nodes_of : SequentTree → ℕ
-nodes_of s = size_of_all (hyps_of s) + size_of_goal (goal_of s)
-
--- an open goal has at most 65,536 nodes
 abbrev pub is_small : SequentTree → Bool
-is_small s = nat_le (nodes_of s) 65536
+is_small s = nat_le (sequent_size s) most_nodes
 
 abbrev pub are_small : List SequentTree → Bool
 are_small ps = list_all is_small ps
 
-abbrev pub new_goals : List (List ℕ) → Result (List SequentTree) RuleFault → Result (List GoalTree) Refusal
-new_goals labels (Ok ps) = if are_small ps then Ok (with_labels labels ps) else Err refusal.NotBuilt
-new_goals labels (Err rule.Shape) = Err refusal.Shape
-new_goals labels (Err fault) = Err refusal.NotBuilt
+abbrev pub new_goals : List (List ℕ) → Result (List SequentTree) RuleFault
+    → Result (List GoalTree) Refusal
+new_goals labels (Ok ps) =
+    if are_small ps then Ok (with_labels labels ps) else Err refusal.NotBuilt
+new_goals labels (Err fault) = Err (refusal_of fault)
 
-abbrev pub after_plan : EnvTree → ℕ → GoalTree → Result Plan Refusal → Result (List GoalTree) Refusal
-after_plan env n g (Ok plan) = new_goals (g.labels ++ plan.labels) (calculus plan.step g.sequent env n)
+abbrev pub after_plan : EnvTree → ℕ → GoalTree → Result Plan Refusal
+    → Result (List GoalTree) Refusal
+after_plan env n g (Ok plan) =
+    new_goals (g.labels ++ plan.labels) (calculus (site env n g.sequent) plan.step)
 after_plan env n g (Err r) = Err r
 
-abbrev pub in_front : Result (List GoalTree) Refusal → List GoalTree → Result (List GoalTree) Refusal
+abbrev pub in_front : Result (List GoalTree) Refusal → List GoalTree
+    → Result (List GoalTree) Refusal
 in_front (Ok gs) rest = Ok (gs ++ rest)
 in_front (Err r) rest = Err r
 
 -- a command replaces the first open goal by the premises of its step
-abbrev pub after_command : EnvTree → ℕ → Command → List GoalTree → Result (List GoalTree) Refusal
+abbrev pub after_command : EnvTree → ℕ → Command → List GoalTree
+    → Result (List GoalTree) Refusal
 after_command env n command [] = Err refusal.Shape
 after_command env n command (g ∷ rest) = in_front (after_plan env n g (plan_of command g)) rest
 
@@ -126,21 +123,24 @@ open_goals (suc n) place = Some (OpenGoals (suc n) place)
 abbrev pub at_end : List GoalTree → Place → Option Trouble
 at_end gs place = open_goals (length gs) place
 
-abbrev pub after_task : Result (List GoalTree) Refusal → Place → (List GoalTree → Option Trouble) → Option Trouble
+abbrev pub after_task : Result (List GoalTree) Refusal → Place → (List GoalTree → Option Trouble)
+    → Option Trouble
 after_task (Ok gs) place further = further gs
 after_task (Err r) place further = Some (trouble_at r place)
 
 -- the first trouble of a proof's commands and its end, from these open goals on
 abbrev pub proof_trouble : EnvTree → ℕ → List Task → Place → List GoalTree → Option Trouble
 proof_trouble env n [] qed gs = at_end gs qed
-proof_trouble env n (t ∷ ts) qed gs = after_task (after_command env n t.command gs) t.place (proof_trouble env n ts qed)
+proof_trouble env n (t ∷ ts) qed gs =
+    after_task (after_command env n t.command gs) t.place (proof_trouble env n ts qed)
 
 -- a lemma's first open goal
 abbrev pub first_goals : SequentTree → List GoalTree
 first_goals start = record { sequent = start; labels = [] } ∷ []
 
 abbrev pub lemma_trouble : EnvTree → ℕ → Lemma → Option Trouble
-lemma_trouble env n l = proof_trouble env n l.tasks l.qed (first_goals (statement_at env n).start)
+lemma_trouble env n l =
+    proof_trouble env n l.tasks l.qed (first_goals (statement_at env n).start)
 
 abbrev pub earlier : Option Trouble → Option Trouble → Option Trouble
 earlier None later = later
@@ -150,16 +150,6 @@ earlier (Some t) later = Some t
 abbrev pub lemmas_trouble : EnvTree → ℕ → List Lemma → Option Trouble
 lemmas_trouble env n [] = None
 lemmas_trouble env n (l ∷ ls) = earlier (lemma_trouble env n l) (lemmas_trouble env (n + 1) ls)
-
--- a lemma is shown on both sides, without variables and hypotheses, in the system without actions
-abbrev pub statement_about : Chain → StmtTree
-statement_about formula = record { kind = kind.Lemma; system = 0; schemas = []; vars = []; start = local Both [] [] (tree_of formula) }
-
-abbrev pub statement_of : Lemma → StmtTree
-statement_of l = statement_about l.formula
-
-abbrev pub environment_of : Script → EnvTree
-environment_of s = record { names = []; funs = s.funs; systems = [] ∷ []; stmts = map statement_of s.lemmas }
 
 -- the first trouble of a file's proofs
 unfoldable pub trouble_of : Script → Option Trouble

@@ -1,5 +1,6 @@
 -- How bytes are parted into sentences of tokens.
-use Rattle.std.specs.Prelude.{ℕ, Bool, true, false, not, ◌&&◌, ◌||◌, ◌==◌, nat_le, ◌+◌, List, [], ◌∷◌, ◌++◌, Option, Some, None, if◌then◌else◌, codes}
+use Rattle.std.specs.Prelude.{ℕ, Bool, false, ◌&&◌, ◌||◌, ◌==◌, nat_le, ◌+◌, List, [], ◌∷◌, ◌++◌}
+use Rattle.std.specs.Prelude.{Option, Some, None, if◌then◌else◌, codes}
 use Rattle.std.specs.Option.{option_and_then}
 use Rattle.std.specs.List.{list_all}
 use Rattle.std.specs.Str.{bytes_eq}
@@ -33,9 +34,11 @@ is_token text = is_word text || is_mark text
 abbrev pub begins : ℕ → Bool
 begins b = is_start b || (b == 58) || (b == 61) || (b == 38)
 
--- whether the byte goes on with what has come of a token that began with the byte `first`: a token is as long as it can be
+-- whether the byte goes on with what has come of a token that began with the byte `first`: a token
+-- is as long as it can be
 abbrev pub goes_on : ℕ → List ℕ → ℕ → Bool
-goes_on first [] b = (is_start first && is_part b) || ((first == 61) && (b == 62)) || ((first == 38) && (b == 38))
+goes_on first [] b =
+    (is_start first && is_part b) || ((first == 61) && (b == 62)) || ((first == 38) && (b == 38))
 goes_on first (c ∷ cs) b = is_start first && is_part b
 
 abbrev pub extends : List ℕ → ℕ → Bool
@@ -48,26 +51,44 @@ first_end [] before now = now
 first_end (w ∷ ws) before now = before
 
 abbrev pub with_token : Scanner → ℕ → List ℕ → Scanner
-with_token s at token = record { done = s.done; words = s.words ++ token ∷ []; at = first_end s.words s.at at; token = [] }
+with_token s at token =
+    record {
+      done = s.done;
+      words = s.words ++ token ∷ [];
+      at = first_end s.words s.at at;
+      token = [];
+    }
 
 -- what has come of a token ends at this place, where it is one
 abbrev pub ended_token : Scanner → ℕ → List ℕ → Option Scanner
 ended_token s at [] = Some s
-ended_token s at (b ∷ bs) = if is_token (b ∷ bs) then Some (with_token s at (b ∷ bs)) else None
+ended_token s at (b ∷ bs) =
+    if is_token (b ∷ bs) then Some (with_token s at (b ∷ bs)) else None
 
 abbrev pub ended : Scanner → ℕ → Option Scanner
 ended s at = ended_token s at s.token
 
 -- the sentence ends
 abbrev pub stopped : Scanner → Scanner
-stopped s = record { done = s.done ++ record { words = s.words; at = s.at } ∷ []; words = []; at = s.at; token = s.token }
+stopped s =
+    record {
+      done = s.done ++ record { words = s.words; at = s.at } ∷ [];
+      words = [];
+      at = s.at;
+      token = s.token;
+    }
 
 -- a byte that no token takes: a blank, the stop, or the first of a token
 abbrev pub after_other : ℕ → Scanner → Option Scanner
-after_other b s = if is_blank b then Some s else (if b == 46 then Some (stopped s) else (if begins b then Some (record s { token = b ∷ [] }) else None))
+after_other b s =
+    if is_blank b then Some s
+    else (if b == 46 then Some (stopped s)
+    else (if begins b then Some (record s { token = b ∷ [] }) else None))
 
 abbrev pub after_byte : Scanner → ℕ → ℕ → Option Scanner
-after_byte s at b = if extends s.token b then Some (record s { token = s.token ++ b ∷ [] }) else option_and_then (after_other b) (ended s at)
+after_byte s at b =
+    if extends s.token b then Some (record s { token = s.token ++ b ∷ [] })
+    else option_and_then (after_other b) (ended s at)
 
 abbrev pub sentences_where : List Sentence → List (List ℕ) → List ℕ → Option (List Sentence)
 sentences_where done [] [] = Some done
@@ -86,6 +107,7 @@ scanned None at bytes = None
 scanned (Some s) at [] = Some s
 scanned (Some s) at (b ∷ bytes) = scanned (after_byte s at b) (at + 1) bytes
 
--- the sentences of the bytes, where each byte stands in a token, is a blank or a stop, and no token stands behind the last stop
+-- the sentences of the bytes, where each byte stands in a token, is a blank or a stop, and no token
+-- stands behind the last stop
 unfoldable pub sentences_of : List ℕ → Option (List Sentence)
 sentences_of bytes = option_and_then finished (scanned (Some start) 0 bytes)

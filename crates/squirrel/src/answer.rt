@@ -1,11 +1,12 @@
 // What is answered for a file that was read.
 ghost use Rattle.std.specs.Prelude.{◌≡◌, ◌≤◌, ◌++◌, [], Some, IfOk, OnOk, length, decimal};
 ghost use Rattle.squirrel.specs.Answering as spec;
-ghost use Rattle.squirrel.specs.Running.{trouble_of};
+ghost use Rattle.squirrel.specs.Running as running;
+ghost use Rattle.squirrel.specs.Scripts as scripts;
 
-use crate::runner::{Trouble, run_proofs};
-use crate::scan::sentences;
-use crate::script::{Lemma, Place, Script, read_script};
+use crate::runner::{Trouble, trouble_of};
+use crate::scan::sentences_of;
+use crate::script::{Lemma, Place, Script, script_of};
 use itoa::Buffer;
 use sq_base::{NoMemory, Seq};
 use sq_edge::Status;
@@ -20,49 +21,52 @@ pub struct Answer {
 
 /// The answer for the bytes of a file. The text's buffer is reserved before the first proof is run.
 #[tactic(auto, unfolding(crate::specs::Answering::answer_of))]
-pub fn answer_to(alloc: Global, bytes: &[u8]) -> Result<Answer, NoMemory>
-    requires { length bytes.now ≤ 1048576 }
+pub fn answer_of(alloc: Global, bytes: &[u8]) -> Result<Answer, NoMemory>
+    requires { length bytes.now ≤ spec.most_bytes }
     ensures { IfOk result (λ a. (a ≡ spec.answer_of bytes.now) × spec.IsVerdict a.status) }
 {
     let text = Seq::from_vec(Vec::with_capacity(alloc, 2 * bytes.len() + 256)?);
-    match read_file_form(alloc, bytes)? {
-        None => refused(text, bytes, Trouble::NotBuilt),
-        Some(script) => answer_to_script(alloc, text, bytes, script),
+    match form_of(alloc, bytes)? {
+        None => refusal(text, bytes, Trouble::NotBuilt),
+        Some(script) => answer_of_run(alloc, text, bytes, script),
     }
 }
 
 // The answer for a file of the form.
-fn answer_to_script(
+fn answer_of_run(
     alloc: Global,
     text: Seq<u8>,
     bytes: &[u8],
     script: Script,
 ) -> Result<Answer, NoMemory>
-    requires short { length bytes.now ≤ 1048576 }
+    requires short { length bytes.now ≤ spec.most_bytes }
     requires empty { text ≡ [] }
-    requires form { spec.form_of bytes.now ≡ Some script }
-    ensures { IfOk result (λ a. (a ≡ spec.answer_of_run bytes.now script (trouble_of script)) × spec.IsVerdict a.status) }
+    requires form { scripts.form_of bytes.now ≡ Some script }
+    ensures { IfOk result (λ a.
+        (a ≡ spec.answer_of_run bytes.now script (running.trouble_of script))
+        × spec.IsVerdict a.status) }
 {
-    match run_proofs(alloc, &script)? {
-        None => listed(text, script.lemmas.as_slice()),
-        Some(trouble) => refused(text, bytes, trouble),
+    match trouble_of(alloc, &script)? {
+        None => listing(text, script.lemmas.as_slice()),
+        Some(trouble) => refusal(text, bytes, trouble),
     }
 }
 
 // What the file holds, where it is of the form.
-#[tactic(auto, unfolding(crate::specs::Answering::form_of))]
-fn read_file_form(alloc: Global, bytes: &[u8]) -> Result<Option<Script>, NoMemory>
-    ensures { IfOk result (λ script. script ≡ spec.form_of bytes.now) }
+#[tactic(auto, unfolding(crate::specs::Scripts::form_of))]
+fn form_of(alloc: Global, bytes: &[u8]) -> Result<Option<Script>, NoMemory>
+    ensures { IfOk result (λ script. script ≡ scripts.form_of bytes.now) }
 {
-    match sentences(alloc, bytes)? {
+    match sentences_of(alloc, bytes)? {
         None => Ok(None),
-        Some(sentences) => read_script(alloc, sentences.as_slice()),
+        Some(sentences) => script_of(alloc, sentences.as_slice()),
     }
 }
 
 // The answer with a line for each lemma.
-fn listed(mut text: Seq<u8>, lemmas: &[Lemma]) -> Result<Answer, NoMemory>
-    ensures { IfOk result (λ a. (a ≡ spec.listing text lemmas.now) × spec.IsVerdict a.status) }
+fn listing(mut text: Seq<u8>, lemmas: &[Lemma]) -> Result<Answer, NoMemory>
+    ensures { IfOk result
+        (λ a. (a ≡ spec.listing text lemmas.now) × spec.IsVerdict a.status) }
 {
     for lemma in lemmas {
         text.extend_from_slice(b"proved ")?;
@@ -76,9 +80,10 @@ fn listed(mut text: Seq<u8>, lemmas: &[Lemma]) -> Result<Answer, NoMemory>
 }
 
 // The answer with the line of the trouble.
-fn refused(mut text: Seq<u8>, bytes: &[u8], trouble: Trouble) -> Result<Answer, NoMemory>
-    requires { length bytes.now ≤ 1048576 }
-    ensures { IfOk result (λ a. (a ≡ spec.refusal text bytes.now trouble) × spec.IsVerdict a.status) }
+fn refusal(mut text: Seq<u8>, bytes: &[u8], trouble: Trouble) -> Result<Answer, NoMemory>
+    requires { length bytes.now ≤ spec.most_bytes }
+    ensures { IfOk result
+        (λ a. (a ≡ spec.refusal text bytes.now trouble) × spec.IsVerdict a.status) }
 {
     text.extend_from_slice(b"refused: ")?;
     add_trouble(&mut text, bytes, trouble)?;
@@ -90,7 +95,7 @@ fn refused(mut text: Seq<u8>, bytes: &[u8], trouble: Trouble) -> Result<Answer, 
 }
 
 fn add_trouble(text: &mut Seq<u8>, bytes: &[u8], trouble: Trouble) -> Result<(), NoMemory>
-    requires { length bytes.now ≤ 1048576 }
+    requires { length bytes.now ≤ spec.most_bytes }
     ensures { OnOk result (text.new ≡ text.old ++ spec.trouble_text bytes.now trouble) }
 {
     match trouble {
@@ -110,7 +115,7 @@ fn add_trouble(text: &mut Seq<u8>, bytes: &[u8], trouble: Trouble) -> Result<(),
 
 // A sentence's number and the line of its first token.
 fn add_place(text: &mut Seq<u8>, bytes: &[u8], place: Place) -> Result<(), NoMemory>
-    requires { length bytes.now ≤ 1048576 }
+    requires { length bytes.now ≤ spec.most_bytes }
     ensures { OnOk result (text.new ≡ text.old ++ spec.place_text bytes.now place) }
 {
     text.extend_from_slice(b"sentence ")?;
@@ -129,7 +134,7 @@ fn add_number(text: &mut Seq<u8>, number: usize) -> Result<(), NoMemory>
 
 // The line of the place, counted from 1.
 fn line_of(bytes: &[u8], at: usize) -> usize
-    requires { length bytes.now ≤ 1048576 }
+    requires { length bytes.now ≤ spec.most_bytes }
     ensures { result ≡ spec.line_of bytes.now at }
 {
     if at < bytes.len() {

@@ -1,14 +1,14 @@
 // Formulas over declared names.
 ghost use Rattle.std.specs.Prelude.{◌≡◌, ◌<◌, ◌+◌, ◌-◌, ◌^◌, ℕ, List, Some, IfOk, option_map};
 ghost use Rattle.sq_term.specs.View.{term_tree};
-ghost use Rattle.sq_term.specs.Symbols.{function_number};
-ghost use Rattle.sq_term.specs.Pure.{builtin_kind};
+ghost use Rattle.squirrel.specs.Depths as depths;
 ghost use Rattle.squirrel.specs.Formulas as spec;
 ghost use Rattle.squirrel.specs.Grammar.{Formula, formula_words, formula_tree};
 
 use sq_base::{NoMemory, Seq, Text};
 use sq_sym::{Symbol, Table};
-use sq_term::{Builtin, Term};
+use sq_term::Term;
+use sq_term::formulas::{both, implies};
 use sqlite_items::Items;
 use std::alloc::Global;
 
@@ -38,7 +38,7 @@ pub struct Chain {
 
 /// The formula that the words spell. None stands for words that are no formula, or for a name that
 /// no `abstract` sentence has declared.
-pub fn read_chain(alloc: Global, table: &Table, words: &[Text]) -> Result<Option<Chain>, NoMemory>
+pub fn chain_of(alloc: Global, table: &Table, words: &[Text]) -> Result<Option<Chain>, NoMemory>
     ensures { IfOk result (λ chain. chain ≡ spec.chain_of table.now words.now) }
 {
     let mut links = Seq::new(alloc);
@@ -66,11 +66,12 @@ pub fn read_chain(alloc: Global, table: &Table, words: &[Text]) -> Result<Option
     }
 }
 
-/// The grammar's words and trees agree with chains: a formula has the tree that the grammar gives to
-/// its words, and what is read as a formula is spelled by the grammar.
+/// The grammar's words and trees agree with chains: a formula has the tree that the grammar gives
+/// to its words, and what is read as a formula is spelled by the grammar.
 pub fn formulas_have_their_trees()
     ensures trees { (table : spec.Declarations) (f : Formula) (chain : Chain)
-        → spec.chain_of table (formula_words f) ≡ Some chain → spec.tree_of chain ≡ formula_tree table f }
+        → spec.chain_of table (formula_words f) ≡ Some chain
+        → spec.tree_of chain ≡ formula_tree table f }
     ensures spelled { (table : spec.Declarations) (words : List (List ℕ)) (chain : Chain)
         → spec.chain_of table words ≡ Some chain → (f : Formula) × (formula_words f ≡ words) }
 {}
@@ -120,7 +121,7 @@ pub fn is_shallow(chain: &Chain) -> bool
 // The depth of an implication, or that of its front where there is no back.
 fn joined_depth(front: usize, back: usize) -> usize
     requires { front + back < 2 ^ 64 - 1 }
-    ensures { result ≡ spec.joined_depth front back }
+    ensures { result ≡ depths.joined_depth front back }
 {
     if back == 0 {
         front
@@ -141,7 +142,7 @@ pub fn term_of(alloc: Global, chain: &Chain) -> Result<Term, NoMemory>
         at -= 1;
         let name = constant(alloc, links[at].function);
         match links[at].connective {
-            Connective::And => front = binary(alloc, Builtin::And, name, front)?,
+            Connective::And => front = both(alloc, name, front)?,
             Connective::Implies => {
                 back = Some(joined(alloc, front, back)?);
                 front = name;
@@ -153,11 +154,12 @@ pub fn term_of(alloc: Global, chain: &Chain) -> Result<Term, NoMemory>
 
 // The implication, or its front where there is no back.
 fn joined(alloc: Global, front: Term, back: Option<Term>) -> Result<Term, NoMemory>
-    ensures { IfOk result (λ t. term_tree t ≡ spec.joined (term_tree front) (option_map term_tree back)) }
+    ensures { IfOk result (λ t. term_tree t
+        ≡ spec.joined (term_tree front) (option_map term_tree back)) }
 {
     match back {
         None => Ok(front),
-        Some(back) => binary(alloc, Builtin::Implies, front, back),
+        Some(back) => implies(alloc, front, back),
     }
 }
 
@@ -166,14 +168,4 @@ fn constant(alloc: Global, function: u32) -> Term
     ensures { term_tree result ≡ spec.constant function }
 {
     Term::Fun(function, Seq::new(alloc), Items::new(alloc))
-}
-
-#[tactic(auto, using(sq_term::proofs::Views::open_rules))]
-fn binary(alloc: Global, function: Builtin, first: Term, second: Term) -> Result<Term, NoMemory>
-    ensures { IfOk result (λ t. term_tree t ≡ spec.binary (function_number (builtin_kind function)) (term_tree first) (term_tree second)) }
-{
-    let mut args = Items::new(alloc);
-    args.push(first)?;
-    args.push(second)?;
-    Ok(Term::Fun(function.number(), Seq::new(alloc), args))
 }

@@ -1,20 +1,24 @@
 // Open goals, and what a proof command makes of the first one.
-ghost use Rattle.std.specs.Prelude.{◌≡◌, ◌++◌, IfOk, OnOk, drop, map, min, length, ◌<◌, Ok};
+ghost use Rattle.std.specs.Prelude.{◌≡◌, ◌++◌, IfOk, OnOk, drop, map, length, ◌<◌, Ok};
 ghost use Rattle.std.specs.List.{position_from};
 ghost use Rattle.sq_base.specs.Gives.{Gives};
-ghost use Rattle.sq_term.specs.View.{term_tree};
-ghost use Rattle.sq_system.specs.Sequents.{sequent_tree};
-ghost use Rattle.sq_system.specs.Environments.{env_tree};
-ghost use Rattle.sq_sequent.specs.Logic.{sequent_trees};
 ghost use Rattle.sq_term.specs.TreeEquality.{is_same_tree};
+ghost use Rattle.sq_term.specs.View.{term_tree};
+ghost use Rattle.sq_system.specs.Environments.{env_tree};
+ghost use Rattle.sq_system.specs.Sequents as sequents;
+ghost use Rattle.sq_system.specs.Sequents.{sequent_tree};
+ghost use Rattle.sq_sequent.specs.Logic.{sequent_trees};
 ghost use Rattle.sq_sequent.specs.Views as views;
 ghost use Rattle.squirrel.specs.Running as spec;
 
+use crate::number::number_of;
 use crate::script::{Command, reads};
 use sq_base::{NoMemory, Seq, Text};
 use sq_rules_logic::premises;
-use sq_sequent::{Env, RuleFault, Sequent, Step, copy_sequent, goal_of, hyps_of, is_same};
-use sq_term::{Term, size};
+use sq_sequent::{
+    Env, RuleFault, Sequent, Site, Step, copy_sequent, goal_of, hyps_of, is_same, sequent_size,
+};
+use sq_term::Term;
 use std::alloc::Global;
 
 /// The most nodes of an open goal.
@@ -55,24 +59,37 @@ impl From<NoMemory> for Refusal {
     }
 }
 
-/// Runs a command on the first of the open goals.
-pub fn run_command(
+impl From<RuleFault> for Refusal {
+    ghost use Rattle.std.specs.Prelude.{◌≡◌};
+    ghost use Rattle.squirrel.specs.Refusals.{refusal_of};
+
+    ghost from_gives = { λ fault e. e ≡ refusal_of fault };
+
+    fn from(fault: RuleFault) -> Self {
+        match fault {
+            RuleFault::Shape => Refusal::Shape,
+            RuleFault::NoMemory => Refusal::NoMemory,
+            _ => Refusal::NotBuilt,
+        }
+    }
+}
+
+/// The open goals after a command on the first of them.
+pub fn after_command(
     alloc: Global,
     env: &Env,
     number: u32,
     command: &Command,
     goals: Seq<Goal>,
 ) -> Result<Seq<Goal>, Refusal>
-    ensures { Gives Refusal.NoMemory spec.goal_trees result (spec.after_command (env_tree env.now) number command.now (spec.goal_trees goals)) }
+    ensures { Gives Refusal.NoMemory spec.goal_trees result
+        (spec.after_command (env_tree env.now) number command.now (spec.goal_trees goals)) }
 {
     let new = match goals.as_slice() {
         [] => return Err(Refusal::Shape),
-        [first, ..] => run_on(alloc, env, number, command, first),
+        [first, ..] => run_on(alloc, env, number, command, first)?,
     };
-    match new {
-        Ok(new) => Ok(replace_first(goals, new)?),
-        Err(refusal) => Err(refusal),
-    }
+    Ok(replace_first(goals, new)?)
 }
 
 // What a command makes of a goal.
@@ -83,12 +100,11 @@ fn run_on(
     command: &Command,
     goal: &Goal,
 ) -> Result<Seq<Goal>, Refusal>
-    ensures { Gives Refusal.NoMemory spec.goal_trees result (spec.after_plan (env_tree env.now) number (spec.goal_tree goal.now) (spec.plan_of command.now (spec.goal_tree goal.now))) }
+    ensures { Gives Refusal.NoMemory spec.goal_trees result (let g = spec.goal_tree goal.now in
+        spec.after_plan (env_tree env.now) number g (spec.plan_of command.now g)) }
 {
-    match plan_of(alloc, command, goal) {
-        Ok(plan) => run_plan(alloc, env, number, plan, goal),
-        Err(refusal) => Err(refusal),
-    }
+    let plan = plan_of(alloc, command, goal)?;
+    run_plan(alloc, env, number, plan, goal)
 }
 
 fn run_plan(
@@ -98,25 +114,25 @@ fn run_plan(
     plan: Plan,
     goal: &Goal,
 ) -> Result<Seq<Goal>, Refusal>
-    ensures { Gives Refusal.NoMemory spec.goal_trees result (spec.after_plan (env_tree env.now) number (spec.goal_tree goal.now) (Ok plan)) }
+    ensures { Gives Refusal.NoMemory spec.goal_trees result
+        (spec.after_plan (env_tree env.now) number (spec.goal_tree goal.now) (Ok plan)) }
 {
-    match premises(alloc, &plan.step, &goal.sequent, env, number) {
-        Ok(premises) => {
-            if are_small(premises.as_slice()) {
-                Ok(with_labels(
-                    alloc,
-                    premises.as_slice(),
-                    goal.labels.as_slice(),
-                    plan.labels.as_slice(),
-                )?)
-            } else {
-                Err(Refusal::NotBuilt)
-            }
-        }
-        Err(RuleFault::Shape) => Err(Refusal::Shape),
-        Err(RuleFault::NoMemory) => Err(Refusal::NoMemory),
-        Err(_) => Err(Refusal::NotBuilt),
+    let at = Site {
+        env,
+        goal: number,
+        sequent: &goal.sequent,
+    };
+    let premises = premises(alloc, &at, &plan.step)?;
+    if !are_small(premises.as_slice()) {
+        return Err(Refusal::NotBuilt);
     }
+    let premises = premises.as_slice();
+    Ok(with_labels(
+        alloc,
+        premises,
+        goal.labels.as_slice(),
+        plan.labels.as_slice(),
+    )?)
 }
 
 // Whether each of the sequents may be an open goal.
@@ -135,21 +151,7 @@ fn are_small(premises: &[Sequent]) -> bool
 fn is_small(sequent: &Sequent) -> bool
     ensures { result ≡ spec.is_small (sequent_tree sequent.now) }
 {
-    let goal = match goal_of(sequent) {
-        Some(goal) => size(goal),
-        None => 0,
-    };
-    size_of_all(hyps_of(sequent)).saturating_add(goal) <= MOST_NODES
-}
-
-fn size_of_all(terms: &[Term]) -> usize
-    ensures { result ≡ min (spec.size_of_all (map term_tree terms.now)) 18446744073709551615 }
-{
-    let mut nodes: usize = 0;
-    for term in terms {
-        nodes = nodes.saturating_add(size(term));
-    }
-    nodes
+    sequent_size(sequent) <= MOST_NODES
 }
 
 // Goals of these sequents, each with all of the labels.
@@ -159,7 +161,8 @@ fn with_labels(
     labels: &[Text],
     more: &[Text],
 ) -> Result<Seq<Goal>, NoMemory>
-    ensures { IfOk result (λ gs. spec.goal_trees gs ≡ spec.with_labels (labels.now ++ more.now) (sequent_trees premises.now)) }
+    ensures { IfOk result (λ gs. spec.goal_trees gs
+        ≡ spec.with_labels (labels.now ++ more.now) (sequent_trees premises.now)) }
 {
     let mut goals = Seq::new(alloc);
     for premise in premises {
@@ -186,22 +189,24 @@ fn add_copies(alloc: Global, labels: &mut Seq<Text>, more: &[Text]) -> Result<()
 
 // The step that the command stands for at this goal.
 fn plan_of(alloc: Global, command: &Command, goal: &Goal) -> Result<Plan, Refusal>
-    ensures { Gives Refusal.NoMemory (λ plan. plan) result (spec.plan_of command.now (spec.goal_tree goal.now)) }
+    ensures { Gives Refusal.NoMemory (λ plan. plan) result
+        (spec.plan_of command.now (spec.goal_tree goal.now)) }
 {
     let labels = goal.labels.as_slice();
     match command {
-        Command::Intro(label) => plan_intro(alloc, labels, label),
-        Command::Destruct(hyp, first, second) => plan_destruct(alloc, labels, hyp, first, second),
+        Command::Intro(label) => intro_plan(alloc, labels, label),
+        Command::Destruct(hyp, first, second) => destruct_plan(alloc, labels, hyp, first, second),
         Command::Split => Ok(Plan {
             step: Step::Andi,
             labels: Seq::new(alloc),
         }),
-        Command::Assumption => plan_assumption(alloc, &goal.sequent),
+        Command::Assumption => assumption_plan(alloc, &goal.sequent),
     }
 }
 
-fn plan_intro(alloc: Global, labels: &[Text], label: &Text) -> Result<Plan, Refusal>
-    ensures { Gives Refusal.NoMemory (λ plan. plan) result (spec.intro_plan labels.now label.now) }
+fn intro_plan(alloc: Global, labels: &[Text], label: &Text) -> Result<Plan, Refusal>
+    ensures { Gives Refusal.NoMemory (λ plan. plan) result
+        (spec.intro_plan labels.now label.now) }
 {
     if is_label(labels, label) {
         return Err(Refusal::NotBuilt);
@@ -214,14 +219,15 @@ fn plan_intro(alloc: Global, labels: &[Text], label: &Text) -> Result<Plan, Refu
     })
 }
 
-fn plan_destruct(
+fn destruct_plan(
     alloc: Global,
     labels: &[Text],
     hyp: &Text,
     first: &Text,
     second: &Text,
 ) -> Result<Plan, Refusal>
-    ensures { Gives Refusal.NoMemory (λ plan. plan) result (spec.destruct_plan (spec.labelled labels.now hyp.now) labels.now first.now second.now) }
+    ensures { Gives Refusal.NoMemory (λ plan. plan) result
+        (spec.destruct_plan (spec.labelled labels.now hyp.now) labels.now first.now second.now) }
 {
     let at = match labelled(labels, hyp) {
         Some(at) => at,
@@ -230,7 +236,7 @@ fn plan_destruct(
     if is_label(labels, first) || is_label(labels, second) || reads(first, second.as_str()) {
         return Err(Refusal::NotBuilt);
     }
-    let number = hypothesis(at)?;
+    let number = number_of(at)?;
     let mut new = Seq::new(alloc);
     new.push(first.copy(alloc)?)?;
     new.push(second.copy(alloc)?)?;
@@ -240,8 +246,9 @@ fn plan_destruct(
     })
 }
 
-fn plan_assumption(alloc: Global, sequent: &Sequent) -> Result<Plan, Refusal>
-    ensures { Gives Refusal.NoMemory (λ plan. plan) result (spec.assumption_plan (spec.assumed_in (views.hyps_of (sequent_tree sequent.now)) (views.goal_of (sequent_tree sequent.now)))) }
+fn assumption_plan(alloc: Global, sequent: &Sequent) -> Result<Plan, Refusal>
+    ensures { Gives Refusal.NoMemory (λ plan. plan) result (let s = sequent_tree sequent.now in
+        spec.assumption_plan (spec.assumed_in (sequents.hyps_of s) (views.goal_of s))) }
 {
     let at = match goal_of(sequent) {
         Some(goal) => assumed(hyps_of(sequent), goal),
@@ -249,20 +256,10 @@ fn plan_assumption(alloc: Global, sequent: &Sequent) -> Result<Plan, Refusal>
     };
     match at {
         Some(at) => Ok(Plan {
-            step: Step::Hyp(hypothesis(at)?),
+            step: Step::Hyp(number_of(at)?),
             labels: Seq::new(alloc),
         }),
         None => Err(Refusal::Shape),
-    }
-}
-
-// The number of a hypothesis, where it is none past those that may be.
-fn hypothesis(at: usize) -> Result<u32, NoMemory>
-    ensures { IfOk result (λ n. n ≡ at) }
-{
-    match u32::try_from(at) {
-        Ok(number) => Ok(number),
-        Err(_) => Err(NoMemory),
     }
 }
 
@@ -291,7 +288,8 @@ fn labelled(labels: &[Text], label: &Text) -> Option<usize>
 
 // The first hypothesis that is the goal.
 fn assumed(hyps: &[Term], goal: &Term) -> Option<usize>
-    ensures { result ≡ position_from (is_same_tree (term_tree goal.now)) 0 (map term_tree hyps.now) }
+    ensures { result
+        ≡ position_from (is_same_tree (term_tree goal.now)) 0 (map term_tree hyps.now) }
 {
     for (at, hyp) in hyps.iter().enumerate() {
         if is_same(goal, hyp) {

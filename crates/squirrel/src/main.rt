@@ -4,14 +4,13 @@
 mod answer;
 mod formula;
 mod goal;
+mod number;
 mod put;
 mod reading;
 mod run;
 mod runner;
 mod scan;
 mod script;
-#[cfg(test)]
-mod tests;
 
 use run::squirrel_run;
 use sq_edge::{FileShelf, Status, StdSink};

@@ -1,5 +1,5 @@
 // Reading a file.
-ghost use Rattle.std.specs.Prelude.{◌≡◌, ◌≤◌, ℕ, List, Some, length, take, IfOk, IsErrOf};
+ghost use Rattle.std.specs.Prelude.{◌≡◌, ℕ, List, Some, take, IfOk, IsErrOf};
 ghost use Rattle.sq_edge.specs.Edge.{held, HasCause};
 
 use sq_edge::{Shelf, ShelfError};
@@ -12,10 +12,13 @@ const PIECE: usize = 65_536;
 
 /// Reads to the end, or until one byte more is held than a file may have.
 pub fn read_file<F: Shelf>(alloc: Global, shelf: &mut F, name: &str) -> Result<Vec<u8>, ShelfError>
-    ensures bytes { IfOk result (λ bytes. (file : List ℕ) → held (F.files shelf.old) name.now ≡ Some file → bytes.items ≡ take 1048577 file) }
-    ensures absent { IsErrOf result ShelfError.Missing → (file : List ℕ) → held (F.files shelf.old) name.now ≡ Some file → ⊥ }
+    ensures bytes { IfOk result (λ bytes. (file : List ℕ)
+        → held (F.files shelf.old) name.now ≡ Some file → bytes.items ≡ take 1048577 file) }
+    ensures absent { IsErrOf result ShelfError.Missing
+        → (file : List ℕ) → held (F.files shelf.old) name.now ≡ Some file → ⊥ }
     ensures files { F.files shelf.new ≡ F.files shelf.old }
-    ensures cause { HasCause (F.faults shelf.old) (F.misses shelf.old) (F.faults shelf.new) (F.misses shelf.new) result }
+    ensures cause { HasCause (F.faults shelf.old) (F.misses shelf.old)
+        (F.faults shelf.new) (F.misses shelf.new) result }
 {
     let mut bytes = Vec::new(alloc);
     'pieces: while bytes.len() < MOST {

@@ -1,11 +1,14 @@
 // Runs the proofs of a file.
 ghost use Rattle.std.specs.Prelude.{◌≡◌, ◌<◌, IfOk, length, map, true};
-ghost use Rattle.sq_system.specs.Environments.{env_tree, stmt_tree};
+ghost use Rattle.sq_system.specs.Environments.{env_tree};
+ghost use Rattle.sq_system.specs.Statements.{stmt_tree};
 ghost use Rattle.sq_system.specs.WellFormed.{is_environment};
 ghost use Rattle.squirrel.specs.Running as spec;
+ghost use Rattle.squirrel.specs.Scripts as scripts;
 
 use crate::formula::{Chain, term_of};
-use crate::goal::{Goal, Refusal, run_command};
+use crate::goal::{Goal, Refusal, after_command};
+use crate::number::number_of;
 use crate::script::{Lemma, Place, Script};
 use sq_base::{NoMemory, Seq};
 use sq_sequent::{Env, Sequent, Stmt, StmtKind, copy_sequent};
@@ -26,13 +29,13 @@ pub enum Trouble {
 
 /// The first trouble of the proofs. Where there is none, they close all goals.
 #[tactic(auto, unfolding(crate::specs::Running::trouble_of))]
-pub fn run_proofs(alloc: Global, script: &Script) -> Result<Option<Trouble>, NoMemory>
-    requires { is_environment (spec.environment_of script.now) ≡ true }
+pub fn trouble_of(alloc: Global, script: &Script) -> Result<Option<Trouble>, NoMemory>
+    requires { is_environment (scripts.environment_of script.now) ≡ true }
     ensures { IfOk result (λ trouble. trouble ≡ spec.trouble_of script.now) }
 {
     let env = environment_of(alloc, script)?;
     'lemmas: for (number, lemma) in script.lemmas.as_slice().iter().enumerate() {
-        if let Some(trouble) = run_lemma(alloc, &env, number, lemma)? {
+        if let Some(trouble) = lemma_trouble(alloc, &env, number, lemma)? {
             return Ok(Some(trouble));
         }
     }
@@ -40,19 +43,17 @@ pub fn run_proofs(alloc: Global, script: &Script) -> Result<Option<Trouble>, NoM
 }
 
 // The first trouble of the proof of this statement.
-fn run_lemma(
+fn lemma_trouble(
     alloc: Global,
     env: &Env,
     number: usize,
     lemma: &Lemma,
 ) -> Result<Option<Trouble>, NoMemory>
     requires { number < length env.now.stmts }
-    ensures { IfOk result (λ trouble. trouble ≡ spec.lemma_trouble (env_tree env.now) number lemma.now) }
+    ensures { IfOk result (λ trouble. trouble
+        ≡ spec.lemma_trouble (env_tree env.now) number lemma.now) }
 {
-    let goal = match u32::try_from(number) {
-        Ok(goal) => goal,
-        Err(_) => return Err(NoMemory),
-    };
+    let goal = number_of(number)?;
     let start = &env.stmts.as_slice()[number].start;
     let mut goals = Seq::new(alloc);
     goals.push(Goal {
@@ -60,7 +61,7 @@ fn run_lemma(
         labels: Seq::new(alloc),
     })?;
     'tasks: for task in lemma.tasks.as_slice() {
-        match run_command(alloc, env, goal, &task.command, goals) {
+        match after_command(alloc, env, goal, &task.command, goals) {
             Ok(next) => goals = next,
             Err(Refusal::NoMemory) => return Err(NoMemory),
             Err(Refusal::Shape) => return Ok(Some(Trouble::Shape(task.place))),
@@ -82,8 +83,8 @@ fn open_goals(count: usize, qed: Place) -> Option<Trouble>
 
 // The environment of the file's declarations.
 fn environment_of(alloc: Global, script: &Script) -> Result<Env, NoMemory>
-    requires { is_environment (spec.environment_of script.now) ≡ true }
-    ensures { IfOk result (λ env. env_tree env ≡ spec.environment_of script.now) }
+    requires { is_environment (scripts.environment_of script.now) ≡ true }
+    ensures { IfOk result (λ env. env_tree env ≡ scripts.environment_of script.now) }
 {
     let funs = Seq::from_slice(alloc, script.funs.as_slice())?;
     let mut systems = Seq::new(alloc);
@@ -97,7 +98,7 @@ fn environment_of(alloc: Global, script: &Script) -> Result<Env, NoMemory>
 }
 
 fn statements_of(alloc: Global, lemmas: &[Lemma]) -> Result<Seq<Stmt>, NoMemory>
-    ensures { IfOk result (λ stmts. map stmt_tree stmts ≡ map spec.statement_of lemmas.now) }
+    ensures { IfOk result (λ stmts. map stmt_tree stmts ≡ map scripts.statement_of lemmas.now) }
 {
     let mut stmts = Seq::new(alloc);
     for lemma in lemmas {
@@ -107,7 +108,7 @@ fn statements_of(alloc: Global, lemmas: &[Lemma]) -> Result<Seq<Stmt>, NoMemory>
 }
 
 fn statement_of(alloc: Global, formula: &Chain) -> Result<Stmt, NoMemory>
-    ensures { IfOk result (λ stmt. stmt_tree stmt ≡ spec.statement_about formula.now) }
+    ensures { IfOk result (λ stmt. stmt_tree stmt ≡ scripts.statement_about formula.now) }
 {
     Ok(Stmt {
         kind: StmtKind::Lemma,

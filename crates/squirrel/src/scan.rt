@@ -1,5 +1,6 @@
 // From bytes to sentences of tokens.
-ghost use Rattle.std.specs.Prelude.{◌≡◌, ℕ, List, ◌++◌, ◌∷◌, Some, None, IfOk, OnOk, if◌then◌else◌, MatchOption, IsTrue};
+ghost use Rattle.std.specs.Prelude.{◌≡◌, ℕ, List, Some, None, IfOk};
+ghost use Rattle.std.specs.Prelude.{if◌then◌else◌};
 ghost use Rattle.std.specs.List.{list_all};
 ghost use Rattle.squirrel.specs.Scanning as spec;
 ghost use Rattle.squirrel.specs.Layout.{AreLaidOut};
@@ -26,9 +27,10 @@ struct Scanner {
     token: Seq<u8>,
 }
 
-/// The sentences of a file. None stands for bytes that are no tokens, or tokens behind the last stop.
+/// The sentences of a file. None stands for bytes that are no tokens, or tokens behind the last
+/// stop.
 #[tactic(auto, unfolding(crate::specs::Scanning::sentences_of))]
-pub fn sentences(alloc: Global, bytes: &[u8]) -> Result<Option<Seq<Sentence>>, NoMemory>
+pub fn sentences_of(alloc: Global, bytes: &[u8]) -> Result<Option<Seq<Sentence>>, NoMemory>
     ensures { IfOk result (λ found. found ≡ spec.sentences_of bytes.now) }
 {
     let mut scanner = Scanner {
@@ -48,7 +50,8 @@ pub fn sentences(alloc: Global, bytes: &[u8]) -> Result<Option<Seq<Sentence>>, N
 impl Scanner {
     // Takes the byte at this place, where the bytes so far can be those of sentences.
     fn take(&mut self, alloc: Global, at: usize, b: u8) -> Result<bool, NoMemory>
-        ensures { IfOk result (λ went. spec.after_byte self.old at b ≡ (if went then Some self.new else None)) }
+        ensures { IfOk result (λ went.
+            spec.after_byte self.old at b ≡ (if went then Some self.new else None)) }
     {
         if extends(self.token.as_slice(), b) {
             self.token.push(b)?;
@@ -62,7 +65,8 @@ impl Scanner {
 
     // Takes a byte where no token has begun.
     fn take_other(&mut self, alloc: Global, b: u8) -> Result<bool, NoMemory>
-        ensures { IfOk result (λ went. spec.after_other b self.old ≡ (if went then Some self.new else None)) }
+        ensures { IfOk result (λ went.
+            spec.after_other b self.old ≡ (if went then Some self.new else None)) }
     {
         if is_blank(b) {
             return Ok(true);
@@ -83,7 +87,8 @@ impl Scanner {
 
     // Ends what has come of a token at this place, where it is one.
     fn end_token(&mut self, alloc: Global, at: usize) -> Result<bool, NoMemory>
-        ensures { IfOk result (λ went. spec.ended self.old at ≡ (if went then Some self.new else None)) }
+        ensures { IfOk result (λ went.
+            spec.ended self.old at ≡ (if went then Some self.new else None)) }
     {
         if self.token.is_empty() {
             return Ok(true);
@@ -115,7 +120,8 @@ impl Scanner {
 
 // The bytes as a text, where they are a token.
 fn token_text(alloc: Global, token: &[u8]) -> Result<Option<Text>, NoMemory>
-    ensures { IfOk result (λ text. text ≡ (if spec.is_token token.now then Some token.now else None)) }
+    ensures { IfOk result (λ text.
+        text ≡ (if spec.is_token token.now then Some token.now else None)) }
 {
     if !is_token(token) {
         return Ok(None);
@@ -193,10 +199,13 @@ fn is_token(text: &[u8]) -> bool
     is_word(text) || text == b":".as_slice() || text == b"=>".as_slice() || text == b"&&".as_slice()
 }
 
-/// What the sentences of bytes are, in the words of a layout: bytes have these sentences exactly where
-/// they are laid out as these, and bytes are laid out as the sentences of one list at most.
+/// What the sentences of bytes are, in the words of a layout: bytes have these sentences exactly
+/// where they are laid out as these, and bytes are laid out as the sentences of one list at most.
 pub fn sentences_are_laid_out()
-    ensures laid_out { (bytes : List ℕ) (found : List Sentence) → spec.sentences_of bytes ≡ Some found → AreLaidOut bytes found }
-    ensures complete { (bytes : List ℕ) (found : List Sentence) → AreLaidOut bytes found → spec.sentences_of bytes ≡ Some found }
-    ensures once { (bytes : List ℕ) (a b : List Sentence) → AreLaidOut bytes a → AreLaidOut bytes b → a ≡ b }
+    ensures laid_out { (bytes : List ℕ) (found : List Sentence)
+        → spec.sentences_of bytes ≡ Some found → AreLaidOut bytes found }
+    ensures complete { (bytes : List ℕ) (found : List Sentence)
+        → AreLaidOut bytes found → spec.sentences_of bytes ≡ Some found }
+    ensures once { (bytes : List ℕ) (a b : List Sentence)
+        → AreLaidOut bytes a → AreLaidOut bytes b → a ≡ b }
 {}

@@ -6,13 +6,14 @@ ghost use Rattle.squirrel.specs.Files.{IsFileOf};
 ghost use Rattle.std.specs.Str.{bytes_eq};
 ghost use Rattle.squirrel.specs.Scripts as spec;
 
-use crate::formula::{Chain, is_shallow, read_chain};
+use crate::formula::{Chain, chain_of, is_shallow};
+use crate::number::number_of;
 use crate::scan::{Sentence, is_word};
 use sq_base::{NoMemory, Seq, Sort, Text};
 use sq_sym::{SymFault, Symbol, Table};
-use sq_system::{builtin_functions, plain_function};
 use sq_term::FunDecl;
 use sq_token::{Reserved, reserved_of};
+use sq_typing::{builtin_functions, plain_function};
 use std::alloc::Global;
 
 /// A proof command. `Destruct` has the label of a hypothesis and those of its parts.
@@ -63,10 +64,10 @@ pub struct Script {
     pub stage: Stage,
 }
 
-/// Reads the sentences of a file. None stands for sentences that are not of the form, a name that is
-/// declared twice, or a formula that uses an undeclared name or is too deep.
+/// What the sentences of a file hold. None stands for sentences that are not of the form, a name
+/// that is declared twice, or a formula that uses an undeclared name or is too deep.
 #[tactic(auto, unfolding(crate::specs::Scripts::script_of))]
-pub fn read_script(alloc: Global, sentences: &[Sentence]) -> Result<Option<Script>, NoMemory>
+pub fn script_of(alloc: Global, sentences: &[Sentence]) -> Result<Option<Script>, NoMemory>
     ensures { IfOk result (λ script. script ≡ spec.script_of sentences.now) }
 {
     let mut script = Script {
@@ -103,7 +104,7 @@ impl Script {
                 Some(Reserved::Lemma) => self.state(alloc, rest),
                 Some(Reserved::Proof) => Ok(self.begin(alloc, rest)),
                 Some(Reserved::Qed) => self.end(rest, place),
-                _ => match read_command(alloc, words)? {
+                _ => match command_of(alloc, words)? {
                     Some(command) => self.add(command, place),
                     None => Ok(None),
                 },
@@ -201,7 +202,7 @@ impl Script {
     ) -> Result<Option<Script>, NoMemory>
         ensures { IfOk result (λ next. next ≡ spec.stated_formula self name.now words.now) }
     {
-        let chain = match read_chain(alloc, &self.table, words)? {
+        let chain = match chain_of(alloc, &self.table, words)? {
             Some(chain) => chain,
             None => return Ok(None),
         };
@@ -293,16 +294,6 @@ impl Script {
     }
 }
 
-// A number of a list's place or of a function, where it is none past those that may be.
-fn number_of(count: usize) -> Result<u32, NoMemory>
-    ensures { IfOk result (λ n. n ≡ count) }
-{
-    match u32::try_from(count) {
-        Ok(number) => Ok(number),
-        Err(_) => Err(NoMemory),
-    }
-}
-
 fn is_outside(stage: &Stage) -> bool
     ensures { result ≡ spec.is_outside stage.now }
 {
@@ -341,7 +332,7 @@ fn is_name(word: &Text) -> bool
     is_word(word.as_str().as_bytes()) && reserved_of(word.as_str()).is_none()
 }
 
-fn read_command(alloc: Global, words: &[Text]) -> Result<Option<Command>, NoMemory>
+fn command_of(alloc: Global, words: &[Text]) -> Result<Option<Command>, NoMemory>
     ensures { IfOk result (λ command. command ≡ spec.command_of words.now) }
 {
     match words {
@@ -361,12 +352,12 @@ fn read_command(alloc: Global, words: &[Text]) -> Result<Option<Command>, NoMemo
                 Ok(None)
             }
         }
-        [word, hyp, by, first, second] => read_destruct(alloc, word, hyp, by, first, second),
+        [word, hyp, by, first, second] => destruct_of(alloc, word, hyp, by, first, second),
         _ => Ok(None),
     }
 }
 
-fn read_destruct(
+fn destruct_of(
     alloc: Global,
     word: &Text,
     hyp: &Text,
@@ -374,7 +365,8 @@ fn read_destruct(
     first: &Text,
     second: &Text,
 ) -> Result<Option<Command>, NoMemory>
-    ensures { IfOk result (λ command. command ≡ spec.destruct_of word.now hyp.now by.now first.now second.now) }
+    ensures { IfOk result (λ command. command
+        ≡ spec.destruct_of word.now hyp.now by.now first.now second.now) }
 {
     if !(is_destruct(word, by) && are_names(hyp, first, second)) {
         return Ok(None);
@@ -388,6 +380,8 @@ fn read_destruct(
 /// What the sentences of a file hold, in the words of a file's form: sentences are read as a script
 /// exactly where they are those of a file of the form that holds it.
 pub fn scripts_are_of_files()
-    ensures file { (sentences : List Sentence) (script : Script) → spec.script_of sentences ≡ Some script → IsFileOf sentences script }
-    ensures complete { (sentences : List Sentence) (script : Script) → IsFileOf sentences script → spec.script_of sentences ≡ Some script }
+    ensures file { (sentences : List Sentence) (script : Script)
+        → spec.script_of sentences ≡ Some script → IsFileOf sentences script }
+    ensures complete { (sentences : List Sentence) (script : Script)
+        → IsFileOf sentences script → spec.script_of sentences ≡ Some script }
 {}

@@ -5,4 +5,6 @@ use Rattle.squirrel.specs.Running.{is_small}
 use Rattle.squirrel.proofs.goal.are_small.Given as goal
 
 abbrev pub invariant-loop-premise : goal.invariant-loop-premise
-invariant-loop-premise l = list_all is_small (map sequent_tree (drop l.premise-index l.premises)) ≡ list_all is_small (map sequent_tree l.premises)
+invariant-loop-premise l =
+    list_all is_small (map sequent_tree (drop l.premise-index l.premises))
+    ≡ list_all is_small (map sequent_tree l.premises)

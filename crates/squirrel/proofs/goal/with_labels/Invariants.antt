@@ -5,4 +5,6 @@ use Rattle.squirrel.proofs.goal.with_labels.Given as goal
 
 abbrev pub invariant-loop-premise : goal.invariant-loop-premise
 invariant-loop-premise l =
-    map goal_tree l.goals ++ with_labels (l.labels ++ l.more) (map sequent_tree (drop l.premise-index l.premises)) ≡ with_labels (l.labels ++ l.more) (map sequent_tree l.premises)
+    map goal_tree l.goals ++ with_labels (l.labels ++ l.more)
+    (map sequent_tree (drop l.premise-index l.premises))
+    ≡ with_labels (l.labels ++ l.more) (map sequent_tree l.premises)

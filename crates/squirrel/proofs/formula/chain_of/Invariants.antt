@@ -1,7 +1,7 @@
 use Rattle.std.proofs.Common.{◌≡◌, length, option_map}
 use Rattle.squirrel.specs.Formulas.{chain_of}
 use Rattle.squirrel.proofs.Chains.{behind}
-use Rattle.squirrel.proofs.formula.read_chain.Given as goal
+use Rattle.squirrel.proofs.formula.chain_of.Given as goal
 
 abbrev pub invariant-names : goal.invariant-names
 invariant-names l = option_map (behind l.links) (chain_of l.table l.rest) ≡ chain_of l.table l.words
