@@ -18,4 +18,7 @@ closed s line = record s {
 
 -- a token on this line belongs to the sentence that is open
 abbrev pub grown : Sentences → Token → ℕ → Sentences
-grown s token line = record s { tokens = s.tokens ++ token ∷ []; line = first_line s.tokens line s.line }
+grown s token line = record s {
+  tokens = s.tokens ++ token ∷ [];
+  line = first_line s.tokens line s.line;
+}

@@ -1,5 +1,8 @@
+pub mod Characters
+pub mod Lexemes
+pub mod Standing
+pub mod Faults
+pub mod Answers
 pub mod Pieces
 pub mod Lex
 pub mod Gathered
-pub mod Standing
-pub mod Faults

@@ -1,37 +1,30 @@
 -- What stands at the front of a text: a blank, a comment or the longest token.
-use Rattle.std.specs.Prelude.{ℕ, ◌+◌, ◌-◌, ◌^◌, Bool, ◌||◌, ◌&&◌, if◌then◌else◌, ◌==◌, nat_lt, nat_eq, List, [], ◌∷◌, length, take, drop, Option, Some, None, slice_index, find, chars}
+use Rattle.std.specs.Prelude.{ℕ, ◌+◌, ◌-◌, ◌^◌, if◌then◌else◌, ◌==◌, nat_lt, nat_eq, List, [], ◌∷◌}
+use Rattle.std.specs.Prelude.{length, take, drop, Option, Some, None, slice_index, find, chars}
 use Rattle.std.specs.List.{prefix_len, starts_with}
 use Rattle.std.specs.Char.{is_ascii_digit, len_utf8}
 use Rattle.unicode_ident.specs.Ident.{is_xid_continue}
 use Rattle.sq_token.specs.declared.kind.Reserved.{Reserved}
 use Rattle.sq_token.specs.declared.kind.Punctuation.{Punctuation}
-use Rattle.sq_token.specs.declared.kind.Punctuation.TheVariants.{Dot, Comma, Colon, Semicolon, Equals, Differs, Less, Greater, AtMost, Implies, LeftArrow, OpenParenthesis, CloseParenthesis, OpenBracket, CloseBracket, And, Or, Bar, Repeat, At, Arrow}
+use Rattle.sq_token.specs.declared.kind.Punctuation.TheVariants as mark
 use Rattle.sq_token.specs.declared.kind.TokenKind.{TokenKind}
 use Rattle.sq_token.specs.declared.kind.TokenKind.TheVariants as kind
 use Rattle.sq_token.specs.Kinds.{is_start, number_value, punctuation_text, reserved_of}
+use Rattle.sq_lex.specs.Characters.{is_blank, opens, closes}
 use Rattle.sq_lex.specs.declared.piece.Piece.{Piece}
 use Rattle.sq_lex.specs.declared.piece.Piece.TheVariants.{Spacing, Token, OpenComment, Wide, Bad}
 
--- ---- blanks and comments
+-- ---- comments
 
--- a space, a tab, a carriage return or a newline
-abbrev pub is_blank : ℕ → Bool
-is_blank b = (b == 32) || (b == 9) || (b == 13) || (b == 10)
-
-abbrev pub opens : ℕ → ℕ → Bool
-opens b c = (b == 40) && (c == 42)
-
-abbrev pub closes : ℕ → ℕ → Bool
-closes b c = (b == 42) && (c == 41)
-
--- The length of the comment whose text goes on like this, where k bytes of it have passed and so many comments
--- are open inside it.
+-- The length of the comment whose text goes on like this, where k bytes of it have passed and so
+-- many comments are open inside it.
 abbrev pub comment_len : ℕ → ℕ → List ℕ → Option ℕ
 comment_len inner k [] = None
 comment_len inner k (b ∷ []) = None
 comment_len inner k (b ∷ c ∷ bs) =
     if opens b c then comment_len (inner + 1) (k + 2) bs
-    else (if closes b c then (if inner == 0 then Some (k + 2) else comment_len (inner - 1) (k + 2) bs)
+    else (if closes b c then
+    (if inner == 0 then Some (k + 2) else comment_len (inner - 1) (k + 2) bs)
     else comment_len inner (k + 1) (c ∷ bs))
 
 abbrev pub commented : Option ℕ → Piece
@@ -64,8 +57,12 @@ digits n bs = if nat_lt (number_value (take n bs)) (2 ^ 128) then Token kind.Num
 
 -- all symbols, those of two bytes first
 abbrev pub symbols : List Punctuation
-symbols = Differs ∷ AtMost ∷ Implies ∷ LeftArrow ∷ And ∷ Or ∷ Repeat ∷ Arrow
-    ∷ Dot ∷ Comma ∷ Colon ∷ Semicolon ∷ Equals ∷ Less ∷ Greater ∷ OpenParenthesis ∷ CloseParenthesis ∷ OpenBracket ∷ CloseBracket ∷ Bar ∷ At ∷ []
+symbols =
+    mark.Differs ∷ mark.AtMost ∷ mark.Implies ∷ mark.LeftArrow
+    ∷ mark.And ∷ mark.Or ∷ mark.Repeat ∷ mark.Arrow
+    ∷ mark.Dot ∷ mark.Comma ∷ mark.Colon ∷ mark.Semicolon ∷ mark.Equals
+    ∷ mark.Less ∷ mark.Greater ∷ mark.OpenParenthesis ∷ mark.CloseParenthesis
+    ∷ mark.OpenBracket ∷ mark.CloseBracket ∷ mark.Bar ∷ mark.At ∷ []
 
 -- the longest symbol that the text begins with
 unfoldable pub symbol_at : List ℕ → Option Punctuation

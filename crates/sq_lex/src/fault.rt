@@ -11,7 +11,8 @@ pub enum LexFault {
     OpenComment(usize),
     /// A number above 2^128 - 1.
     NumberWide(usize),
-    /// Tokens behind the last stop; the place is that of the first. It comes after every other fault.
+    /// Tokens behind the last stop; the place is that of the first. It comes after every other
+    /// fault.
     NoStop(usize),
     NoMemory,
 }

@@ -1,6 +1,10 @@
-ghost use Rattle.std.specs.Prelude.{◌≡◌, ◌≤◌, [], length, map, count_by};
+ghost use Rattle.std.specs.Prelude.{◌≡◌, ◌≢◌, ◌≤◌, [], length, map, count_by, IfOk, IfErr};
 ghost use Rattle.sq_base.specs.Gives.{Gives};
+ghost use Rattle.sq_lex.specs.Answers.{AreSentences};
+ghost use Rattle.sq_lex.specs.Characters.{is_newline};
+ghost use Rattle.sq_lex.specs.Faults.{IsFault};
 ghost use Rattle.sq_lex.specs.Lex as spec;
+ghost use Rattle.sq_lex.specs.Lexemes.{line_of};
 
 use crate::LexFault;
 use crate::piece::{Piece, piece_at};
@@ -11,9 +15,12 @@ use std::alloc::Global;
 use std::str;
 
 /// Cuts a source into its sentences.
+///
+/// Of a source's faults the first is answered: one that is not UTF-8 before all others, then the
+/// character, comment or number that comes first, and only then tokens behind the last stop.
 pub fn lex(alloc: Global, bytes: &[u8]) -> Result<Seq<Sentence>, LexFault>
-    requires { length bytes.now ≤ 4294967294 }
-    ensures { Gives LexFault.NoMemory (map spec.line_of) result (spec.sentences bytes.now) }
+    ensures sentences { IfOk result (λ found. AreSentences bytes.now (map line_of found)) }
+    ensures fault { IfErr result (λ e. e ≢ LexFault.NoMemory → IsFault bytes.now e) }
 {
     match str::from_utf8(bytes) {
         Ok(text) => sentences(alloc, text),
@@ -22,13 +29,13 @@ pub fn lex(alloc: Global, bytes: &[u8]) -> Result<Seq<Sentence>, LexFault>
 }
 
 fn sentences(alloc: Global, text: &str) -> Result<Seq<Sentence>, LexFault>
-    requires { length text.now ≤ 4294967294 }
-    ensures { Gives LexFault.NoMemory (map spec.line_of) result (spec.cut_all text.now [] (spec.lexemes 0 0 text.now)) }
+    ensures { Gives LexFault.NoMemory (map line_of) result
+        (spec.cut_all text.now [] (spec.lexemes 0 0 text.now)) }
 {
     let mut found = Sentences::new(alloc);
     let mut rest = text;
-    let mut at = 0usize;
-    let mut line = 1u32;
+    let mut at = 0;
+    let mut line = 1;
     'pieces: while !rest.is_empty() {
         match piece_at(rest) {
             Piece::Spacing(n) => {
@@ -59,10 +66,9 @@ fn sentences(alloc: Global, text: &str) -> Result<Seq<Sentence>, LexFault>
     found.finish()
 }
 
-fn newlines(text: &str) -> u32
-    requires { length text.now ≤ 4294967294 }
-    ensures value { result ≡ count_by spec.is_newline text.now }
+fn newlines(text: &str) -> usize
+    ensures value { result ≡ count_by is_newline text.now }
     ensures within { result ≤ length text.now }
 {
-    text.bytes().filter(|b| *b == b'\n').count() as u32
+    text.bytes().filter(|b| *b == b'\n').count()
 }

@@ -1,7 +1,9 @@
-ghost use Rattle.std.specs.Prelude.{◌≡◌, ◌<◌, ◌≤◌, drop, length, chars, slice_index, nat_eq, IsCharBoundary};
+ghost use Rattle.std.specs.Prelude.{◌≡◌, ◌<◌, ◌≤◌, drop, length, chars, slice_index, nat_eq};
+ghost use Rattle.std.specs.Prelude.{IsCharBoundary};
 ghost use Rattle.std.specs.List.{prefix_len, starts_with};
 ghost use Rattle.std.specs.Char.{is_ascii_digit};
 ghost use Rattle.sq_token.specs.Kinds as kinds;
+ghost use Rattle.sq_lex.specs.Characters as characters;
 ghost use Rattle.sq_lex.specs.Pieces as spec;
 
 use sq_token::{Punctuation, TokenKind, reserved_of};
@@ -40,7 +42,7 @@ pub fn piece_at(text: &str) -> Piece
 }
 
 fn is_blank(b: u8) -> bool
-    ensures { result ≡ spec.is_blank b }
+    ensures { result ≡ characters.is_blank b }
 {
     b == b' ' || b == b'\t' || b == b'\r' || b == b'\n'
 }
@@ -53,13 +55,13 @@ fn head(bytes: &[u8]) -> u8
 }
 
 fn opens(b: u8, c: u8) -> bool
-    ensures { result ≡ spec.opens b c }
+    ensures { result ≡ characters.opens b c }
 {
     b == b'(' && c == b'*'
 }
 
 fn closes(b: u8, c: u8) -> bool
-    ensures { result ≡ spec.closes b c }
+    ensures { result ≡ characters.closes b c }
 {
     b == b'*' && c == b')'
 }

@@ -1,6 +1,7 @@
 ghost use Rattle.std.specs.Prelude.{◌≡◌, [], ◌∷◌, ◌++◌, true, false, map, OnOk};
 ghost use Rattle.sq_base.specs.Gives.{Gives};
 ghost use Rattle.sq_lex.specs.Lex as spec;
+ghost use Rattle.sq_lex.specs.Lexemes.{is_stop, line_of, lexeme_of};
 ghost use Rattle.sq_lex.specs.Gathered.{closed, grown};
 
 use crate::LexFault;
@@ -14,7 +15,7 @@ use std::mem;
 pub struct Sentences {
     done: Seq<Sentence>,
     tokens: Seq<Token>,
-    line: u32,
+    line: usize,
 }
 
 impl Sentences {
@@ -29,9 +30,10 @@ impl Sentences {
     }
 
     /// Takes in the next token, which stands on this line.
-    pub fn push(&mut self, token: Token, line: u32) -> Result<(), NoMemory>
-        ensures stop { OnOk result (spec.is_stop token.kind ≡ true → self.new ≡ closed self.old line) }
-        ensures other { OnOk result (spec.is_stop token.kind ≡ false → self.new ≡ grown self.old token line) }
+    pub fn push(&mut self, token: Token, line: usize) -> Result<(), NoMemory>
+        ensures stop { OnOk result (is_stop token.kind ≡ true → self.new ≡ closed self.old line) }
+        ensures other { OnOk result
+            (is_stop token.kind ≡ false → self.new ≡ grown self.old token line) }
     {
         if self.tokens.is_empty() {
             self.line = line;
@@ -50,7 +52,9 @@ impl Sentences {
 
     /// The sentences, where no token stands behind the last stop.
     pub fn finish(self) -> Result<Seq<Sentence>, LexFault>
-        ensures { Gives LexFault.NoMemory (map spec.line_of) result (spec.joined (map spec.line_of self.done) (spec.unfinished (map spec.lexeme_of self.tokens))) }
+        ensures { Gives LexFault.NoMemory (map line_of) result
+            (spec.joined (map line_of self.done)
+            (spec.unfinished (map lexeme_of self.tokens))) }
     {
         let Sentences {
             done,

@@ -60,5 +60,5 @@ impl Token {
 pub struct Sentence {
     pub tokens: Seq<Token>,
     /// The line of its first token, or of its stop where it has none; lines count from 1.
-    pub line: u32,
+    pub line: usize,
 }

@@ -6,5 +6,6 @@ use Rattle.sq_lex.proofs.piece.piece_at.Goals as goal
 
 pub word-requires : goal.word-requires
 word-requires c =
-    let some : 0 < name_len (chars c.args.text.now) = omega (arith, c.name_len-name.ensures) in
-    subst (IsCharBoundary c.args.text.now) (sym c.name_len-name.ensures) (name_boundary c.args.text.now c.utf8.text some)
+    let text = c.args.text.now in
+    let some : 0 < name_len (chars text) = omega (arith, c.name_len-name.ensures) in
+    subst (IsCharBoundary text) (sym c.name_len-name.ensures) (name_boundary text c.utf8.text some)
