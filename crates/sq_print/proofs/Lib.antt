@@ -3,6 +3,7 @@ pub mod Words
 pub mod Candidates
 pub mod TakenNames
 pub mod Supplied
+pub mod FreeNames
 pub mod Rows
 pub mod Behind
 pub mod Items

@@ -14,8 +14,11 @@ bytes_eq-sym x y = by (bytes_eq y x) refl
     by false e = differ x y (λ h. false≢true (sym e ∙ equal y x (sym h)))
 
 -- a name is in the set, or in the rest of the list
-pub one_taken : (x q : List ℕ) (rest : List (List ℕ)) (old new : Bool) → new ≡ cond (bytes_eq x q) true old → (new || among q rest) ≡ (old || among q (x ∷ rest))
-one_taken x q rest old new e = ap (λ b. b || among q rest) (e ∙ ap (λ b. cond b true old) (bytes_eq-sym x q)) ∙ by (bytes_eq q x) old
+pub one_taken : (x q : List ℕ) (rest : List (List ℕ)) (old new : Bool)
+    → new ≡ cond (bytes_eq x q) true old → (new || among q rest) ≡ (old || among q (x ∷ rest))
+one_taken x q rest old new e =
+    ap (λ b. b || among q rest) (e ∙ ap (λ b. cond b true old) (bytes_eq-sym x q))
+    ∙ by (bytes_eq q x) old
   where
     by : (b o : Bool) → (cond b true o || among q rest) ≡ (o || (b || among q rest))
     by true true = refl

@@ -45,7 +45,8 @@ hypothesis_text ns label h = label ++ (codes " : " ++ (term_text ns [] h ++ newl
 -- a line for each hypothesis from the k-th on
 abbrev pub hypotheses_text : Names → List (List ℕ) → ℕ → List TermTree → List ℕ
 hypotheses_text ns labels k [] = []
-hypotheses_text ns labels k (h ∷ hs) = hypothesis_text ns (text_at labels k) h ++ hypotheses_text ns labels (k + 1) hs
+hypotheses_text ns labels k (h ∷ hs) =
+    hypothesis_text ns (text_at labels k) h ++ hypotheses_text ns labels (k + 1) hs
 
 -- the one term of an item whose sides are the same, and both terms of another
 abbrev pub item_text : Names → Item → List ℕ
@@ -54,12 +55,14 @@ item_text ns (item a b) =
     else codes "diff(" ++ (term_text ns [] a ++ (codes "," ++ (term_text ns [] b ++ codes ")")))
 
 abbrev pub known_line : Names → List ℕ → List Item → List ℕ
-known_line ns label is = label ++ (codes " ~ " ++ (joined (codes ", ") (map (item_text ns) is) ++ newline))
+known_line ns label is =
+    label ++ (codes " ~ " ++ (joined (codes ", ") (map (item_text ns) is) ++ newline))
 
 -- a line for each known list from the k-th on
 abbrev pub known_text : Names → List (List ℕ) → ℕ → List (List Item) → List ℕ
 known_text ns labels k [] = []
-known_text ns labels k (is ∷ iss) = known_line ns (text_at labels k) is ++ known_text ns labels (k + 1) iss
+known_text ns labels k (is ∷ iss) =
+    known_line ns (text_at labels k) is ++ known_text ns labels (k + 1) iss
 
 abbrev pub item_line : Names → ℕ → Item → List ℕ
 item_line ns k i = decimal k ++ (codes ": " ++ (item_text ns i ++ newline))
@@ -72,26 +75,38 @@ items_text ns k (i ∷ is) = item_line ns k i ++ items_text ns (k + 1) is
 abbrev pub rule : List ℕ
 rule = codes "----" ++ newline
 
--- what stands behind the first line of a block: its variables, hypotheses and known lists, and what is to be shown
+-- what stands behind the first line of a block: its variables, hypotheses and known lists, and what
+-- is to be shown
 abbrev pub sequent_text : Names → List (List ℕ) → List (List ℕ) → SequentTree → List ℕ
-sequent_text ns labels known_labels (trace vars hyps goal) = variables_text ns.vars vars ++ (hypotheses_text ns labels 0 hyps ++ (rule ++ (term_text ns [] goal ++ newline)))
-sequent_text ns labels known_labels (local side vars hyps goal) = variables_text ns.vars vars ++ (hypotheses_text ns labels 0 hyps ++ (rule ++ (term_text ns [] goal ++ newline)))
+sequent_text ns labels known_labels (trace vars hyps goal) =
+    variables_text ns.vars vars ++
+    (hypotheses_text ns labels 0 hyps ++ (rule ++ (term_text ns [] goal ++ newline)))
+sequent_text ns labels known_labels (local side vars hyps goal) =
+    variables_text ns.vars vars ++
+    (hypotheses_text ns labels 0 hyps ++ (rule ++ (term_text ns [] goal ++ newline)))
 sequent_text ns labels known_labels (equiv vars hyps known items) =
-    variables_text ns.vars vars ++ (hypotheses_text ns labels 0 hyps ++ (known_text ns known_labels 0 known ++ (rule ++ items_text ns 0 items)))
+    variables_text ns.vars vars ++
+    (hypotheses_text ns labels 0 hyps ++
+    (known_text ns known_labels 0 known ++ (rule ++ items_text ns 0 items)))
 
 abbrev pub goal_names : ℕ → List (List ℕ × Symbol) → OpenGoal → Names
-goal_names system table g = record { schemas = g.schemas; vars = g.vars; system = system; table = table }
+goal_names system table g =
+    record { schemas = g.schemas; vars = g.vars; system = system; table = table }
 
 -- the block of the k-th of m goals
 abbrev pub goal_text : ℕ → List (List ℕ × Symbol) → ℕ → ℕ → OpenGoal → List ℕ
 goal_text system table k m g =
-    codes "goal " ++ (decimal k ++ (codes " of " ++ (decimal m ++ (codes " (" ++ (kind_text (sequent_tree g.sequent) ++ (codes ")" ++ (newline
+    codes "goal " ++
+    (decimal k ++
+    (codes " of " ++
+    (decimal m ++ (codes " (" ++ (kind_text (sequent_tree g.sequent) ++ (codes ")" ++ (newline
     ++ sequent_text (goal_names system table g) g.labels g.known (sequent_tree g.sequent))))))))
 
 -- the blocks of the goals from the k-th on
 abbrev pub goals_from : ℕ → List (List ℕ × Symbol) → ℕ → ℕ → List OpenGoal → List ℕ
 goals_from system table k m [] = []
-goals_from system table k m (g ∷ gs) = goal_text system table k m g ++ goals_from system table (k + 1) m gs
+goals_from system table k m (g ∷ gs) =
+    goal_text system table k m g ++ goals_from system table (k + 1) m gs
 
 -- all blocks, counted from 1
 abbrev pub goals_text : ℕ → List (List ℕ × Symbol) → List OpenGoal → List ℕ

@@ -1,5 +1,6 @@
 pub mod Forms
 pub mod Names
+pub mod FreeNames
 pub mod Printed
 pub mod Written
 pub mod Spellings

@@ -1,10 +1,14 @@
 -- The names that a text is printed with.
-use Rattle.std.specs.Prelude.{ℕ, zero, suc, ◌+◌, Bool, false, ◌&&◌, ◌||◌, nat_eq, List, [], ◌∷◌, ◌++◌, length, Option, Some, None, unwrap_or, is_some, slice_get, codes, if◌then◌else◌}
+use Rattle.std.specs.Prelude.{ℕ, zero, suc, ◌+◌, Bool, false, ◌&&◌, ◌||◌, nat_eq, List, [], ◌∷◌}
+use Rattle.std.specs.Prelude.{◌++◌, length, unwrap_or, is_some, slice_get}
+use Rattle.std.specs.Prelude.{codes, if◌then◌else◌}
 use Rattle.std.specs.Str.{bytes_eq}
 use Rattle.std.specs.Fmt.{decimal}
 use Rattle.std.specs.List.{list_any}
 use Rattle.sq_base.specs.declared.sort.Sort.{Sort}
 use Rattle.sq_base.specs.declared.sort.Sort.TheVariants as sort
+use Rattle.sq_term.specs.Builtins.{word}
+use Rattle.sq_term.specs.Symbols.{Kind, function_number}
 use Rattle.sq_sym.specs.declared.symbol.Symbol.{Symbol}
 use Rattle.sq_sym.specs.declared.symbol.Symbol.TheVariants as symbol
 use Rattle.sq_sym.specs.Declarations.{found}
@@ -43,21 +47,9 @@ name_word ns n = spelling (is_name n) ns.table
 unfoldable pub action_word : Names → ℕ → List ℕ
 action_word ns a = spelling (is_action ns.system a) ns.table
 
--- the word of a built-in function that is written as one
-abbrev pub own_word : ℕ → Option (List ℕ)
-own_word f =
-    if nat_eq f 0 then Some (codes "empty")
-    else (if nat_eq f 1 then Some (codes "true")
-    else (if nat_eq f 2 then Some (codes "false")
-    else (if nat_eq f 3 then Some (codes "not")
-    else (if nat_eq f 10 then Some (codes "fst")
-    else (if nat_eq f 11 then Some (codes "snd")
-    else (if nat_eq f 12 then Some (codes "of_bool")
-    else (if nat_eq f 13 then Some (codes "att") else None)))))))
-
 -- its own word, or the table's
-unfoldable pub function_word : Names → ℕ → List ℕ
-function_word ns f = unwrap_or (own_word f) (spelling (is_function f) ns.table)
+unfoldable pub function_word : Names → Kind → List ℕ
+function_word ns f = unwrap_or (word f) (spelling (is_function (function_number f)) ns.table)
 
 -- whether a text is one of these names
 abbrev pub among : List ℕ → List (List ℕ) → Bool
@@ -98,4 +90,6 @@ binder_name ns around s = first_free ns around (stem s) (names_count ns around) 
 -- the names of the indices that a find binds
 abbrev pub bound_names : Names → List (List ℕ) → ℕ → List (List ℕ)
 bound_names ns around zero = []
-bound_names ns around (suc n) = binder_name ns around sort.Index ∷ bound_names ns (around ++ binder_name ns around sort.Index ∷ []) n
+bound_names ns around (suc n) =
+    binder_name ns around sort.Index ∷ bound_names ns
+    (around ++ binder_name ns around sort.Index ∷ []) n

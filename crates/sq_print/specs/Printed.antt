@@ -1,18 +1,22 @@
 -- The printed form of a term.
-use Rattle.std.specs.Prelude.{ℕ, List, [], ◌∷◌, ◌++◌, length, map, reverse, Option, Some, None, codes, if◌then◌else◌}
+use Rattle.std.specs.Prelude.{ℕ, List, [], ◌∷◌, ◌++◌, length, map, reverse, codes, if◌then◌else◌}
 use Rattle.sq_base.specs.declared.sort.Sort.{Sort}
 use Rattle.sq_base.specs.declared.sort.Sort.TheVariants as sort
 use Rattle.sq_term.specs.declared.term.Idx.{Idx}
 use Rattle.sq_term.specs.declared.term.Idx.TheVariants as idx
 use Rattle.sq_term.specs.declared.term.Macro.{Macro}
 use Rattle.sq_term.specs.declared.term.Macro.TheVariants as macro_word
-use Rattle.sq_term.specs.Syntax.{TsTree, free, bound, init, pred, action, TermTree, name, fun, macro, schema, diff, le, ts_eq, idx_eq, happens, all, some, find, TermTrees, nil, cons}
+use Rattle.sq_term.specs.declared.layout.Layout.{Layout}
+use Rattle.sq_term.specs.declared.layout.Layout.TheVariants.{Word, Infix, Pair, Conditional}
+use Rattle.sq_term.specs.Builtins.{sign}
+use Rattle.sq_term.specs.Syntax.{TsTree, free, bound, init, pred, action, TermTree, name, fun}
+use Rattle.sq_term.specs.Syntax.{macro, schema, diff, le, ts_eq, idx_eq, happens, all, some, find}
+use Rattle.sq_term.specs.Syntax.{TermTrees, nil, cons}
 use Rattle.sq_print.specs.declared.form.Form.{Form}
 use Rattle.sq_print.specs.declared.form.Form.TheVariants as form
-use Rattle.sq_print.specs.declared.form.Layout.{Layout}
-use Rattle.sq_print.specs.declared.form.Layout.TheVariants.{And, Or, Implies, Equal, Pair, Conditional}
-use Rattle.sq_print.specs.Forms.{fits, layout_of, form_of}
-use Rattle.sq_print.specs.Names.{Names, text_at, name_word, action_word, function_word, binder_name, bound_names}
+use Rattle.sq_print.specs.Forms.{fits, left_form, right_form, layout_of, form_of}
+use Rattle.sq_print.specs.Names.{Names, text_at, name_word, action_word, function_word, binder_name}
+use Rattle.sq_print.specs.Names.{bound_names}
 
 abbrev pub sort_text : Sort → List ℕ
 sort_text sort.Message = codes "message"
@@ -41,19 +45,21 @@ call word (a ∷ rest) = word ++ (codes "(" ++ (joined (codes ",") (a ∷ rest) 
 abbrev pub placed : Form → Form × List ℕ → List ℕ
 placed place part = if fits part.0 place then part.1 else codes "(" ++ (part.1 ++ codes ")")
 
--- the arguments of a function that has a layout
+-- the arguments of a function that is not written as a word
 abbrev pub laid : Layout → List (Form × List ℕ) → List ℕ
-laid And (a ∷ b ∷ []) = placed form.Atom a ++ (codes " && " ++ placed form.Conjunction b)
-laid Or (a ∷ b ∷ []) = placed form.Conjunction a ++ (codes " || " ++ placed form.Disjunction b)
-laid Implies (a ∷ b ∷ []) = placed form.Disjunction a ++ (codes " => " ++ placed form.Formula b)
-laid Equal (a ∷ b ∷ []) = placed form.Term a ++ (codes " = " ++ placed form.Term b)
-laid Pair (a ∷ b ∷ []) = codes "<" ++ (placed form.Term a ++ (codes "," ++ (placed form.Term b ++ codes ">")))
-laid Conditional (a ∷ b ∷ c ∷ []) = codes "if " ++ (placed form.Formula a ++ (codes " then " ++ (placed form.Term b ++ (codes " else " ++ placed form.Term c))))
+laid (Infix l) (a ∷ b ∷ []) =
+    placed (left_form l) a
+    ++ ((codes " " ++ (sign l ++ codes " ")) ++ placed (right_form l) b)
+laid Pair (a ∷ b ∷ []) =
+    codes "<" ++ (placed form.Term a ++ (codes "," ++ (placed form.Term b ++ codes ">")))
+laid Conditional (a ∷ b ∷ c ∷ []) =
+    codes "if " ++ (placed form.Formula a ++ (codes " then " ++ (placed form.Term b
+    ++ (codes " else " ++ placed form.Term c))))
 laid _ _ = []
 
-abbrev pub by_layout : Option Layout → List ℕ → List (List ℕ) → List (Form × List ℕ) → List ℕ
-by_layout (Some l) word indices parts = laid l parts
-by_layout None word indices parts = call word (indices ++ map (λ p. p.1) parts)
+abbrev pub by_layout : Layout → List ℕ → List (List ℕ) → List (Form × List ℕ) → List ℕ
+by_layout Word word indices parts = call word (indices ++ map (λ p. p.1) parts)
+by_layout l word indices parts = laid l parts
 
 abbrev pub idx_text : Names → List (List ℕ) → Idx → List ℕ
 idx_text ns around (idx.Free k) = text_at ns.vars k
@@ -72,25 +78,37 @@ ts_text ns around (action a is) = call (action_word ns a) (idx_texts ns around i
 
 -- a quantifier's word, its variable's name and sort, and its body
 abbrev pub quantified : List ℕ → List ℕ → Sort → List ℕ → List ℕ
-quantified word x s body = word ++ (codes " (" ++ (x ++ (codes ":" ++ (sort_text s ++ (codes "), " ++ body)))))
+quantified word x s body =
+    word ++ (codes " (" ++ (x ++ (codes ":" ++ (sort_text s ++ (codes "), " ++ body)))))
 
 -- a term below binders with these names, which are listed from outside in
 abbrev mutual
   pub term_text : Names → List (List ℕ) → TermTree → List ℕ
   term_text ns around (name n is) = call (name_word ns n) (idx_texts ns around is)
-  term_text ns around (fun f is ts) = by_layout (layout_of f (length is) (length (part_texts ns around ts))) (function_word ns f) (idx_texts ns around is) (part_texts ns around ts)
+  term_text ns around (fun f is ts) =
+      by_layout (layout_of f (length is) (length (part_texts ns around ts))) (function_word ns f)
+      (idx_texts ns around is) (part_texts ns around ts)
   term_text ns around (macro m t) = macro_text m ++ (codes "@" ++ ts_text ns around t)
   term_text ns around (schema k) = text_at ns.schemas k
-  term_text ns around (diff a b) = codes "diff(" ++ (term_text ns around a ++ (codes "," ++ (term_text ns around b ++ codes ")")))
+  term_text ns around (diff a b) =
+      codes "diff(" ++
+      (term_text ns around a ++ (codes "," ++ (term_text ns around b ++ codes ")")))
   term_text ns around (le a b) = ts_text ns around a ++ (codes " <= " ++ ts_text ns around b)
   term_text ns around (ts_eq a b) = ts_text ns around a ++ (codes " = " ++ ts_text ns around b)
   term_text ns around (idx_eq i j) = idx_text ns around i ++ (codes " = " ++ idx_text ns around j)
   term_text ns around (happens t) = codes "happens(" ++ (ts_text ns around t ++ codes ")")
-  term_text ns around (all s t) = quantified (codes "forall") (binder_name ns around s) s (term_text ns (around ++ binder_name ns around s ∷ []) t)
-  term_text ns around (some s t) = quantified (codes "exists") (binder_name ns around s) s (term_text ns (around ++ binder_name ns around s ∷ []) t)
+  term_text ns around (all s t) =
+      quantified (codes "forall") (binder_name ns around s) s
+      (term_text ns (around ++ binder_name ns around s ∷ []) t)
+  term_text ns around (some s t) =
+      quantified (codes "exists") (binder_name ns around s) s
+      (term_text ns (around ++ binder_name ns around s ∷ []) t)
   term_text ns around (find n t u v) =
-      codes "find " ++ (joined (codes ", ") (bound_names ns around n) ++ (codes " such that " ++ (term_text ns (around ++ bound_names ns around n) t
-      ++ (codes " in " ++ (placed form.Term (form_of u, term_text ns (around ++ bound_names ns around n) u)
+      codes "find " ++
+      (joined (codes ", ") (bound_names ns around n) ++
+      (codes " such that " ++ (term_text ns (around ++ bound_names ns around n) t
+      ++ (codes " in " ++
+      (placed form.Term (form_of u, term_text ns (around ++ bound_names ns around n) u)
       ++ (codes " else " ++ placed form.Term (form_of v, term_text ns around v)))))))
 
   -- the forms and texts of the arguments of a function

@@ -1,5 +1,6 @@
 -- The names that binders take one after another.
-use Rattle.std.specs.Prelude.{◌≡◌, ◌<◌, ◌^◌, ◌&&◌, ℕ, zero, suc, not, nat_lt, List, [], ◌∷◌, ◌++◌, length, take, if◌then◌else◌}
+use Rattle.std.specs.Prelude.{◌≡◌, ◌<◌, ◌^◌, ◌&&◌, ℕ, zero, suc, not, nat_lt, List, [], ◌∷◌, ◌++◌}
+use Rattle.std.specs.Prelude.{length, take, if◌then◌else◌}
 use Rattle.sq_base.specs.declared.sort.Sort.TheVariants.{Index, Timestamp}
 use Rattle.sq_print.specs.declared.binders.Supply.{Supply}
 use Rattle.sq_print.specs.declared.binders.Binders.{Binders}
@@ -9,7 +10,9 @@ use Rattle.sq_print.specs.Names.{Names, is_used, among, candidate, stem}
 -- those of the first candidates that are not used
 abbrev pub free_names : Names → List ℕ → ℕ → List (List ℕ)
 free_names ns s zero = []
-free_names ns s (suc n) = if is_used ns (candidate s n) then free_names ns s n else free_names ns s n ++ candidate s n ∷ []
+free_names ns s (suc n) =
+    if is_used ns
+    (candidate s n) then free_names ns s n else free_names ns s n ++ candidate s n ∷ []
 
 -- the names found are the free ones among those tried
 pub record IsSupply (ns : Names) (s : List ℕ) (p : Supply) : Type 0 where
@@ -18,7 +21,9 @@ pub record IsSupply (ns : Names) (s : List ℕ) (p : Supply) : Type 0 where
 
 -- of the candidates with a stem, the binders around have the first free ones, so many of them
 pub record HasFirst (ns : Names) (s : List ℕ) (used : ℕ) (around : List (List ℕ)) : Type 0 where
-  pub taken : (k : ℕ) → k < 2 ^ 32 → among (candidate s k) around ≡ (not (is_used ns (candidate s k)) && nat_lt (length (free_names ns s k)) used)
+  pub taken : (k : ℕ) → k < 2 ^ 32
+      → among (candidate s k) around
+      ≡ (not (is_used ns (candidate s k)) && nat_lt (length (free_names ns s k)) used)
 
 -- the supplies are right, and the binders around have taken their names from them
 pub record IsAround (ns : Names) (b : Binders) : Type 0 where

@@ -5,4 +5,5 @@ use Rattle.sq_print.specs.Names.{among}
 
 -- the set has the names of the variables and of the schema variables
 abbrev pub HasNames : {Y S : Type 0} → List (List ℕ) → List (List ℕ) → HashSet (String Y) S → Type 0
-HasNames vars schemas names = (q : List ℕ) → contains_text names q ≡ (among q vars || among q schemas)
+HasNames vars schemas names =
+    (q : List ℕ) → contains_text names q ≡ (among q vars || among q schemas)

@@ -1,5 +1,6 @@
 // The names of bound variables.
-ghost use Rattle.std.specs.Prelude.{◌≡◌, ◌+◌, ◌<◌, [], ◌∷◌, ◌++◌, IfOk, OnOk, Some, length, slice_get, drop, string_bytes, if◌then◌else◌};
+ghost use Rattle.std.specs.Prelude.{◌≡◌, ◌+◌, ◌<◌, [], ◌∷◌, ◌++◌, IfOk, OnOk, Some, length};
+ghost use Rattle.std.specs.Prelude.{slice_get, drop, string_bytes, if◌then◌else◌};
 ghost use Rattle.std.specs.Fmt.{decimal};
 ghost use Rattle.sq_print.specs.Names as spec;
 ghost use Rattle.sq_print.specs.Names.{Names};
@@ -123,7 +124,9 @@ impl Binders {
     /// Enters a binder, whose name is the last one from then on.
     pub fn bind(&mut self, scope: &Scope, sort: Sort) -> Result<(), NoMemory>
         requires { IsAround (names_of scope.now) self.old }
-        ensures name { OnOk result (self.new.around ≡ self.old.around ++ spec.binder_name (names_of scope.now) self.old.around sort ∷ []) }
+        ensures name { OnOk result
+            (self.new.around
+            ≡ self.old.around ++ spec.binder_name (names_of scope.now) self.old.around sort ∷ []) }
         ensures kept { OnOk result (IsAround (names_of scope.now) self.new) }
     {
         match sort {
@@ -136,7 +139,10 @@ impl Binders {
 
     fn bind_time(&mut self, scope: &Scope) -> Result<(), NoMemory>
         requires { IsAround (names_of scope.now) self.old }
-        ensures name { OnOk result (self.new.around ≡ self.old.around ++ spec.binder_name (names_of scope.now) self.old.around Sort.Timestamp ∷ []) }
+        ensures name { OnOk result
+            (self.new.around
+            ≡ self.old.around
+            ++ spec.binder_name (names_of scope.now) self.old.around Sort.Timestamp ∷ []) }
         ensures kept { OnOk result (IsAround (names_of scope.now) self.new) }
     {
         let name = self.times.next(scope, Sort::Timestamp)?;
@@ -146,7 +152,10 @@ impl Binders {
 
     fn bind_index(&mut self, scope: &Scope) -> Result<(), NoMemory>
         requires { IsAround (names_of scope.now) self.old }
-        ensures name { OnOk result (self.new.around ≡ self.old.around ++ spec.binder_name (names_of scope.now) self.old.around Sort.Index ∷ []) }
+        ensures name { OnOk result
+            (self.new.around
+            ≡ self.old.around
+            ++ spec.binder_name (names_of scope.now) self.old.around Sort.Index ∷ []) }
         ensures kept { OnOk result (IsAround (names_of scope.now) self.new) }
     {
         let name = self.indices.next(scope, Sort::Index)?;
@@ -184,7 +193,9 @@ pub fn number_text(alloc: Global, n: usize) -> Result<String, NoMemory>
 }
 
 fn add_free(found: &mut Seq<Text>, scope: &Scope, name: Text) -> Result<(), NoMemory>
-    ensures { OnOk result (found.new ≡ (if spec.is_used (names_of scope.now) name then found.old else found.old ++ name ∷ [])) }
+    ensures { OnOk result
+        (found.new
+        ≡ (if spec.is_used (names_of scope.now) name then found.old else found.old ++ name ∷ [])) }
 {
     if scope.is_used(name.as_str()) {
         return Ok(());

@@ -1,10 +1,11 @@
 // Which form of the grammar a term is, and how the parts of an application are laid out.
 ghost use Rattle.std.specs.Prelude.{◌≡◌};
 ghost use Rattle.sq_term.specs.View.{term_tree};
+ghost use Rattle.sq_term.specs.Symbols.{kind_of};
 ghost use Rattle.sq_print.specs.Forms as spec;
 ghost use Rattle.sq_print.specs.Written as written;
 
-use sq_term::Term;
+use sq_term::{Builtin, Layout, Level, Term};
 
 /// A form of the grammar, the tightest first. A term of one form stands without parentheses where
 /// its own form or a looser one is wanted.
@@ -36,10 +37,7 @@ impl Form {
         ensures { result ≡ spec.form_of (term_tree t.now) }
     {
         match t {
-            Term::Fun(f, is, ts) => match Layout::of(*f, is.len(), ts.len()) {
-                Some(layout) => layout.form(),
-                None => Form::Term,
-            },
+            Term::Fun(f, is, ts) => Form::of_layout(layout_of(*f, is.len(), ts.len())),
             Term::Le(_, _) | Term::TsEq(_, _) | Term::IdxEq(_, _) => Form::Atom,
             Term::Forall(_, _) | Term::Exists(_, _) => Form::Formula,
             Term::Name(_, _)
@@ -57,93 +55,85 @@ impl Form {
     {
         self.rank() <= place.rank()
     }
-}
 
-/// How the arguments of a function are laid out that is not written as a word and its arguments.
-#[derive(Clone, Copy, Debug, PartialEq, Eq)]
-pub enum Layout {
-    And,
-    Or,
-    Implies,
-    Equal,
-    Pair,
-    Conditional,
-}
-
-impl Layout {
-    /// The layout of the built-in function of this number, where it has its own counts of indices
-    /// and arguments.
-    pub fn of(function: u32, indices: usize, arguments: usize) -> Option<Layout>
-        ensures { result ≡ spec.layout_of function indices arguments }
+    /// The form of an application that is laid out so.
+    pub fn of_layout(layout: Layout) -> Form
+        ensures { result ≡ spec.layout_form layout }
     {
-        if indices != 0 {
-            return None;
-        }
-        match (function, arguments) {
-            (4, 2) => Some(Layout::And),
-            (5, 2) => Some(Layout::Or),
-            (6, 2) => Some(Layout::Implies),
-            (7, 2) => Some(Layout::Equal),
-            (8, 3) => Some(Layout::Conditional),
-            (9, 2) => Some(Layout::Pair),
-            _ => None,
+        match layout {
+            Layout::Infix(level) => Form::of_level(level),
+            Layout::Word | Layout::Pair | Layout::Conditional => Form::Term,
         }
     }
 
-    /// The form of the whole.
-    pub fn form(self) -> Form
-        ensures { result ≡ spec.layout_form self }
+    fn of_level(level: Level) -> Form
+        ensures { result ≡ spec.level_form level }
     {
-        match self {
-            Layout::And => Form::Conjunction,
-            Layout::Or => Form::Disjunction,
-            Layout::Implies => Form::Formula,
-            Layout::Equal => Form::Atom,
-            Layout::Pair | Layout::Conditional => Form::Term,
+        match level {
+            Level::Atom => Form::Atom,
+            Level::Conjunction => Form::Conjunction,
+            Level::Disjunction => Form::Disjunction,
+            Level::Formula => Form::Formula,
         }
     }
 
-    /// What stands before the k-th argument.
-    pub fn before(self, k: usize) -> &'static str
-        ensures { result.now ≡ written.before self k }
+    // What stands on the left of a sign without parentheses.
+    fn left_of(level: Level) -> Form
+        ensures { result ≡ spec.left_form level }
     {
-        match (self, k) {
-            (Layout::Pair, 0) => "<",
-            (Layout::Conditional, 0) => "if ",
-            (_, 0) => "",
-            (Layout::And, _) => " && ",
-            (Layout::Or, _) => " || ",
-            (Layout::Implies, _) => " => ",
-            (Layout::Equal, _) => " = ",
-            (Layout::Pair, _) => ",",
-            (Layout::Conditional, 1) => " then ",
-            (Layout::Conditional, _) => " else ",
+        match level {
+            Level::Atom => Form::Term,
+            Level::Conjunction => Form::Atom,
+            Level::Disjunction => Form::Conjunction,
+            Level::Formula => Form::Disjunction,
+        }
+    }
+
+    // What stands on the right of a sign without parentheses.
+    fn right_of(level: Level) -> Form
+        ensures { result ≡ spec.right_form level }
+    {
+        match level {
+            Level::Atom => Form::Term,
+            Level::Conjunction => Form::Conjunction,
+            Level::Disjunction => Form::Disjunction,
+            Level::Formula => Form::Formula,
         }
     }
 
     /// The form that the k-th argument may have without parentheses.
-    pub fn place(self, k: usize) -> Form
-        ensures { result ≡ written.place self k }
+    pub fn place(layout: Layout, k: usize) -> Form
+        ensures { result ≡ written.place layout k }
     {
-        match (self, k) {
-            (Layout::And, 0) => Form::Atom,
-            (Layout::And, _) => Form::Conjunction,
-            (Layout::Or, 0) => Form::Conjunction,
-            (Layout::Or, _) => Form::Disjunction,
-            (Layout::Implies, 0) => Form::Disjunction,
-            (Layout::Implies, _) => Form::Formula,
-            (Layout::Conditional, 0) => Form::Formula,
-            (Layout::Equal | Layout::Pair | Layout::Conditional, _) => Form::Term,
+        match layout {
+            Layout::Infix(level) if k == 0 => Form::left_of(level),
+            Layout::Infix(level) => Form::right_of(level),
+            Layout::Conditional if k == 0 => Form::Formula,
+            Layout::Word | Layout::Pair | Layout::Conditional => Form::Term,
         }
     }
+}
 
-    /// What stands behind the arguments.
-    pub fn end(self) -> &'static str
-        ensures { result.now ≡ written.end self }
-    {
-        match self {
-            Layout::Pair => ">",
-            Layout::And | Layout::Or | Layout::Implies | Layout::Equal | Layout::Conditional => "",
+/// How an application of the function of this number to so many indices and arguments is laid out:
+/// as a word where it has not the function's own counts.
+#[tactic(auto, using(crate::proofs::Rows::declared_layout))]
+pub fn layout_of(function: u32, indices: usize, arguments: usize) -> Layout
+    ensures { result ≡ spec.layout_of (kind_of function) indices arguments }
+{
+    match Builtin::of(function) {
+        Some(builtin) if indices == 0 && arguments == builtin.arguments() as usize => {
+            builtin.layout()
         }
+        _ => Layout::Word,
+    }
+}
+
+/// What stands behind the arguments.
+pub fn end(layout: Layout) -> &'static str
+    ensures { result.now ≡ written.end layout }
+{
+    match layout {
+        Layout::Pair => ">",
+        Layout::Word | Layout::Infix(_) | Layout::Conditional => "",
     }
 }

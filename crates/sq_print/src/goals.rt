@@ -35,7 +35,11 @@ pub fn print_term(
     system: u32,
     table: &Table,
 ) -> Result<Text, NoMemory>
-    ensures { IfOk result (λ text. text ≡ term_text (record { schemas = schemas.now; vars = vars.now; system = system; table = table.now }) [] (term_tree t.now)) }
+    ensures { IfOk result
+        (λ text. text
+        ≡ term_text
+        (record { schemas = schemas.now; vars = vars.now; system = system; table = table.now }) []
+        (term_tree t.now)) }
 {
     let spellings = Spellings::of(alloc, table, system)?;
     let taken = names_taken(alloc, vars, schemas)?;
@@ -80,7 +84,8 @@ fn write_goals(
     goals: &[OpenGoal],
 ) -> Result<(), NoMemory>
     requires { Tells table.now system spellings.now }
-    ensures { OnOk result (out.new ≡ lines.wrote_goals system table.now 0 (length goals.now) out.old goals.now) }
+    ensures { OnOk result
+        (out.new ≡ lines.wrote_goals system table.now 0 (length goals.now) out.old goals.now) }
 {
     for (k, goal) in goals.iter().enumerate() {
         let taken = names_taken(alloc, &goal.vars, &goal.schemas)?;
@@ -106,7 +111,8 @@ fn write_goal(
     count: usize,
 ) -> Result<(), NoMemory>
     requires { names_of scope.now ≡ spec.goal_names scope.now.system scope.now.table.now goal.now }
-    ensures { OnOk result (out.new ≡ lines.wrote_goal scope.now.system scope.now.table.now k count goal.now out.old) }
+    ensures { OnOk result
+        (out.new ≡ lines.wrote_goal scope.now.system scope.now.table.now k count goal.now out.old) }
 {
     let number = number_text(alloc, k)?;
     let total = number_text(alloc, count)?;
@@ -127,7 +133,9 @@ fn write_sequent(
     scope: &Scope,
     goal: &OpenGoal,
 ) -> Result<(), NoMemory>
-    ensures { OnOk result (out.new ≡ lines.wrote_sequent (names_of scope.now) goal.now.labels goal.now.known out.old (sequent_tree goal.now.sequent)) }
+    ensures { OnOk result
+        (out.new ≡ lines.wrote_sequent (names_of scope.now) goal.now.labels goal.now.known out.old
+        (sequent_tree goal.now.sequent)) }
 {
     let mut binders = Binders::new(alloc);
     match &goal.sequent {
@@ -176,7 +184,8 @@ fn write_shown(
     shown: &Term,
 ) -> Result<(), NoMemory>
     requires { StandsAlone (names_of scope.now) binders.old }
-    ensures { OnOk result (out.new ≡ lines.wrote_shown (names_of scope.now) (term_tree shown.now) out.old) }
+    ensures { OnOk result
+        (out.new ≡ lines.wrote_shown (names_of scope.now) (term_tree shown.now) out.old) }
 {
     out.push_str("----\n")?;
     write_whole(out, scope, binders, shown)?;

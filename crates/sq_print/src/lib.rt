@@ -4,6 +4,7 @@
 mod binders;
 mod form;
 mod goals;
+mod laws;
 mod lines;
 mod pieces;
 mod scope;
@@ -12,6 +13,4 @@ mod taken;
 mod writer;
 
 pub use goals::{print_goals, print_term};
-
-#[cfg(test)]
-mod tests;
+pub use laws::a_binder_has_the_first_free_name;

@@ -40,7 +40,8 @@ pub fn write_whole(
     t: &Term,
 ) -> Result<(), NoMemory>
     requires { StandsAlone (names_of scope.now) binders.old }
-    ensures text { OnOk result (out.new ≡ out.old ++ term_text (names_of scope.now) [] (term_tree t.now)) }
+    ensures text { OnOk result
+        (out.new ≡ out.old ++ term_text (names_of scope.now) [] (term_tree t.now)) }
     ensures kept { OnOk result (StandsAlone (names_of scope.now) binders.new) }
 {
     write(out, scope, binders, t)?;
@@ -88,7 +89,9 @@ fn write_hypothesis(
     hypothesis: &Term,
 ) -> Result<(), NoMemory>
     requires { StandsAlone (names_of scope.now) binders.old }
-    ensures text { OnOk result (out.new ≡ spec.wrote_hypothesis (names_of scope.now) label.now (term_tree hypothesis.now) out.old) }
+    ensures text { OnOk result
+        (out.new ≡ spec.wrote_hypothesis (names_of scope.now) label.now
+        (term_tree hypothesis.now) out.old) }
     ensures kept { OnOk result (StandsAlone (names_of scope.now) binders.new) }
 {
     out.push_str(label)?;
@@ -107,7 +110,9 @@ pub fn write_hypotheses(
     hypotheses: &[Term],
 ) -> Result<(), NoMemory>
     requires { StandsAlone (names_of scope.now) binders.old }
-    ensures text { OnOk result (out.new ≡ spec.wrote_hypotheses (names_of scope.now) labels.now 0 out.old (map term_tree hypotheses.now)) }
+    ensures text { OnOk result
+        (out.new ≡ spec.wrote_hypotheses (names_of scope.now) labels.now 0 out.old
+        (map term_tree hypotheses.now)) }
     ensures kept { OnOk result (StandsAlone (names_of scope.now) binders.new) }
 {
     for (k, hypothesis) in hypotheses.iter().enumerate() {
@@ -124,7 +129,8 @@ fn write_item(
     item: &Both,
 ) -> Result<(), NoMemory>
     requires { StandsAlone (names_of scope.now) binders.old }
-    ensures text { OnOk result (out.new ≡ spec.wrote_item (names_of scope.now) out.old (item_of item.now)) }
+    ensures text { OnOk result
+        (out.new ≡ spec.wrote_item (names_of scope.now) out.old (item_of item.now)) }
     ensures kept { OnOk result (StandsAlone (names_of scope.now) binders.new) }
 {
     if same(&item.left, &item.right) {
@@ -146,7 +152,8 @@ fn write_list(
     items: &[Both],
 ) -> Result<(), NoMemory>
     requires { StandsAlone (names_of scope.now) binders.old }
-    ensures text { OnOk result (out.new ≡ spec.wrote_list (names_of scope.now) [] out.old (map item_of items.now)) }
+    ensures text { OnOk result
+        (out.new ≡ spec.wrote_list (names_of scope.now) [] out.old (map item_of items.now)) }
     ensures kept { OnOk result (StandsAlone (names_of scope.now) binders.new) }
 {
     let mut before = "";
@@ -166,7 +173,9 @@ fn write_known_line(
     items: &[Both],
 ) -> Result<(), NoMemory>
     requires { StandsAlone (names_of scope.now) binders.old }
-    ensures text { OnOk result (out.new ≡ spec.wrote_known_line (names_of scope.now) label.now (map item_of items.now) out.old) }
+    ensures text { OnOk result
+        (out.new ≡ spec.wrote_known_line (names_of scope.now) label.now
+        (map item_of items.now) out.old) }
     ensures kept { OnOk result (StandsAlone (names_of scope.now) binders.new) }
 {
     out.push_str(label)?;
@@ -185,7 +194,9 @@ pub fn write_known(
     known: &[Seq<Both>],
 ) -> Result<(), NoMemory>
     requires { StandsAlone (names_of scope.now) binders.old }
-    ensures text { OnOk result (out.new ≡ spec.wrote_known (names_of scope.now) labels.now 0 out.old (map (map item_of) known.now)) }
+    ensures text { OnOk result
+        (out.new ≡ spec.wrote_known (names_of scope.now) labels.now 0 out.old
+        (map (map item_of) known.now)) }
     ensures kept { OnOk result (StandsAlone (names_of scope.now) binders.new) }
 {
     for (k, items) in known.iter().enumerate() {
@@ -203,7 +214,8 @@ fn write_item_line(
     item: &Both,
 ) -> Result<(), NoMemory>
     requires { StandsAlone (names_of scope.now) binders.old }
-    ensures text { OnOk result (out.new ≡ spec.wrote_item_line (names_of scope.now) k (item_of item.now) out.old) }
+    ensures text { OnOk result
+        (out.new ≡ spec.wrote_item_line (names_of scope.now) k (item_of item.now) out.old) }
     ensures kept { OnOk result (StandsAlone (names_of scope.now) binders.new) }
 {
     let number = number_text(alloc, k)?;
@@ -223,7 +235,8 @@ pub fn write_items(
     items: &[Both],
 ) -> Result<(), NoMemory>
     requires { StandsAlone (names_of scope.now) binders.old }
-    ensures text { OnOk result (out.new ≡ spec.wrote_items (names_of scope.now) 0 out.old (map item_of items.now)) }
+    ensures text { OnOk result
+        (out.new ≡ spec.wrote_items (names_of scope.now) 0 out.old (map item_of items.now)) }
     ensures kept { OnOk result (StandsAlone (names_of scope.now) binders.new) }
 {
     for (k, item) in items.iter().enumerate() {

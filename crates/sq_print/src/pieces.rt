@@ -1,5 +1,6 @@
 // The pieces of a term's text that hold no term: parentheses, indices, timestamps, names.
 ghost use Rattle.std.specs.Prelude.{◌≡◌, ◌++◌, ◌&&◌, ◌-◌, [], ◌∷◌, OnOk, codes};
+ghost use Rattle.sq_term.specs.Symbols.{kind_of};
 ghost use Rattle.sq_term.specs.View.{ts_tree, term_trees};
 ghost use Rattle.sq_print.specs.Names as names;
 ghost use Rattle.sq_print.specs.Printed as printed;
@@ -11,7 +12,7 @@ use crate::binders::Binders;
 use crate::form::Form;
 use crate::scope::{Scope, bound_name, text_at};
 use sq_base::{NoMemory, Seq, Sort, Text};
-use sq_term::{Idx, Macro, Term, Ts};
+use sq_term::{Idx, Layout, Macro, Term, Ts};
 
 pub fn sort_text(sort: Sort) -> &'static str
     ensures { result.now ≡ printed.sort_text sort }
@@ -56,6 +57,27 @@ pub fn close(out: &mut Text, place: Form, own: Form) -> Result<(), NoMemory>
     out.push_str(")")
 }
 
+/// Writes what stands before the k-th argument of a layout.
+pub fn write_before(out: &mut Text, layout: Layout, k: usize) -> Result<(), NoMemory>
+    ensures { OnOk result (out.new ≡ spec.wrote_before layout k out.old) }
+{
+    match layout {
+        Layout::Word => Ok(()),
+        Layout::Infix(_) if k == 0 => Ok(()),
+        Layout::Infix(level) => {
+            out.push_str(" ")?;
+            out.push_str(level.sign())?;
+            out.push_str(" ")
+        }
+        Layout::Pair => out.push_str(if k == 0 { "<" } else { "," }),
+        Layout::Conditional => out.push_str(match k {
+            0 => "if ",
+            1 => " then ",
+            _ => " else ",
+        }),
+    }
+}
+
 /// Closes a call, if it has arguments.
 pub fn end_call(out: &mut Text, bare: bool) -> Result<(), NoMemory>
     ensures { OnOk result (out.new ≡ spec.ended bare out.old) }
@@ -73,7 +95,8 @@ pub fn write_index(
     around: &Seq<Text>,
     index: Idx,
 ) -> Result<(), NoMemory>
-    ensures { OnOk result (out.new ≡ out.old ++ printed.idx_text (names_of scope.now) around.now index) }
+    ensures { OnOk result
+        (out.new ≡ out.old ++ printed.idx_text (names_of scope.now) around.now index) }
 {
     match index {
         Idx::Free(k) => out.push_str(text_at(scope.vars, k as usize)),
@@ -88,7 +111,9 @@ pub fn write_indices(
     around: &Seq<Text>,
     indices: &[Idx],
 ) -> Result<(), NoMemory>
-    ensures { OnOk result (out.new ≡ spec.wrote_indices (names_of scope.now) around.now (codes "(") out.old indices.now) }
+    ensures { OnOk result
+        (out.new ≡ spec.wrote_indices (names_of scope.now) around.now
+        (codes "(") out.old indices.now) }
 {
     let mut before = "(";
     for index in indices {
@@ -108,7 +133,9 @@ pub fn first_before(indices: &Seq<Idx>) -> &'static str
 
 /// Closes the call of a function, if it has indices or arguments.
 pub fn end_function(out: &mut Text, indices: &Seq<Idx>, arguments: &[Term]) -> Result<(), NoMemory>
-    ensures { OnOk result (out.new ≡ spec.ended (spec.is_none indices.now && spec.are_none (term_trees arguments.now)) out.old) }
+    ensures { OnOk result
+        (out.new ≡ spec.ended
+        (spec.is_none indices.now && spec.are_none (term_trees arguments.now)) out.old) }
 {
     if !indices.is_empty() {
         return out.push_str(")");
@@ -126,7 +153,8 @@ pub fn write_call(
     around: &Seq<Text>,
     indices: &Seq<Idx>,
 ) -> Result<(), NoMemory>
-    ensures { OnOk result (out.new ≡ spec.wrote_call (names_of scope.now) around.now out.old indices.now) }
+    ensures { OnOk result
+        (out.new ≡ spec.wrote_call (names_of scope.now) around.now out.old indices.now) }
 {
     write_indices(out, scope, around, indices.as_slice())?;
     end_call(out, indices.is_empty())?;
@@ -141,7 +169,9 @@ pub fn write_name(
     n: u32,
     indices: &Seq<Idx>,
 ) -> Result<(), NoMemory>
-    ensures { OnOk result (out.new ≡ spec.wrote_call (names_of scope.now) around.now (out.old ++ names.name_word (names_of scope.now) n) indices.now) }
+    ensures { OnOk result
+        (out.new ≡ spec.wrote_call (names_of scope.now) around.now
+        (out.old ++ names.name_word (names_of scope.now) n) indices.now) }
 {
     out.push_str(scope.name(n))?;
     write_call(out, scope, around, indices)?;
@@ -156,7 +186,9 @@ pub fn write_head(
     f: u32,
     indices: &Seq<Idx>,
 ) -> Result<(), NoMemory>
-    ensures { OnOk result (out.new ≡ spec.wrote_indices (names_of scope.now) around.now (codes "(") (out.old ++ names.function_word (names_of scope.now) f) indices.now) }
+    ensures { OnOk result
+        (out.new ≡ spec.wrote_indices (names_of scope.now) around.now
+        (codes "(") (out.old ++ names.function_word (names_of scope.now) (kind_of f)) indices.now) }
 {
     out.push_str(scope.function(f))?;
     write_indices(out, scope, around, indices.as_slice())?;
@@ -166,7 +198,8 @@ pub fn write_head(
 /// Writes a timestamp.
 #[tactic(auto, using(crate::proofs::Rows::form_rules))]
 pub fn write_ts(out: &mut Text, scope: &Scope, around: &Seq<Text>, t: &Ts) -> Result<(), NoMemory>
-    ensures { OnOk result (out.new ≡ spec.wrote_ts (names_of scope.now) around.now out.old (ts_tree t.now)) }
+    ensures { OnOk result
+        (out.new ≡ spec.wrote_ts (names_of scope.now) around.now out.old (ts_tree t.now)) }
 {
     match t {
         Ts::Free(k) => out.push_str(text_at(scope.vars, *k as usize)),
@@ -193,7 +226,10 @@ pub fn write_related(
     between: &str,
     right: &Ts,
 ) -> Result<(), NoMemory>
-    ensures { OnOk result (out.new ≡ spec.wrote_ts (names_of scope.now) around.now (spec.wrote_ts (names_of scope.now) around.now out.old (ts_tree left.now) ++ between.now) (ts_tree right.now)) }
+    ensures { OnOk result
+        (out.new ≡ spec.wrote_ts (names_of scope.now) around.now
+        (spec.wrote_ts (names_of scope.now) around.now out.old (ts_tree left.now) ++ between.now)
+        (ts_tree right.now)) }
 {
     write_ts(out, scope, around, left)?;
     out.push_str(between)?;
@@ -209,7 +245,9 @@ pub fn write_macro(
     word: Macro,
     at: &Ts,
 ) -> Result<(), NoMemory>
-    ensures { OnOk result (out.new ≡ spec.wrote_ts (names_of scope.now) around.now ((out.old ++ printed.macro_text word) ++ codes "@") (ts_tree at.now)) }
+    ensures { OnOk result
+        (out.new ≡ spec.wrote_ts (names_of scope.now) around.now
+        ((out.old ++ printed.macro_text word) ++ codes "@") (ts_tree at.now)) }
 {
     out.push_str(macro_text(word))?;
     out.push_str("@")?;
@@ -224,7 +262,9 @@ pub fn write_happens(
     around: &Seq<Text>,
     at: &Ts,
 ) -> Result<(), NoMemory>
-    ensures { OnOk result (out.new ≡ spec.wrote_ts (names_of scope.now) around.now (out.old ++ codes "happens(") (ts_tree at.now) ++ codes ")") }
+    ensures { OnOk result
+        (out.new ≡ spec.wrote_ts (names_of scope.now) around.now
+        (out.old ++ codes "happens(") (ts_tree at.now) ++ codes ")") }
 {
     out.push_str("happens(")?;
     write_ts(out, scope, around, at)?;
@@ -240,7 +280,9 @@ pub fn write_same_indices(
     i: Idx,
     j: Idx,
 ) -> Result<(), NoMemory>
-    ensures { OnOk result (out.new ≡ ((out.old ++ printed.idx_text (names_of scope.now) around.now i) ++ codes " = ") ++ printed.idx_text (names_of scope.now) around.now j) }
+    ensures { OnOk result
+        (out.new ≡ ((out.old ++ printed.idx_text (names_of scope.now) around.now i) ++ codes " = ")
+        ++ printed.idx_text (names_of scope.now) around.now j) }
 {
     write_index(out, scope, around, i)?;
     out.push_str(" = ")?;
@@ -264,7 +306,9 @@ pub fn write_names(out: &mut Text, names: &[Text]) -> Result<(), NoMemory>
 /// Enters the binders of a find.
 pub fn bind_indices(binders: &mut Binders, scope: &Scope, count: u32) -> Result<(), NoMemory>
     requires { IsAround (names_of scope.now) binders.old }
-    ensures names { OnOk result (binders.new.around ≡ binders.old.around ++ names.bound_names (names_of scope.now) binders.old.around count) }
+    ensures names { OnOk result
+        (binders.new.around
+        ≡ binders.old.around ++ names.bound_names (names_of scope.now) binders.old.around count) }
     ensures kept { OnOk result (IsAround (names_of scope.now) binders.new) }
 {
     for turn in 0..count {
@@ -282,8 +326,13 @@ pub fn enter(
     sort: Sort,
 ) -> Result<(), NoMemory>
     requires { IsAround (names_of scope.now) binders.old }
-    ensures text { OnOk result (out.new ≡ spec.wrote_binder word.now (names.binder_name (names_of scope.now) binders.old.around sort) sort out.old) }
-    ensures name { OnOk result (binders.new.around ≡ binders.old.around ++ names.binder_name (names_of scope.now) binders.old.around sort ∷ []) }
+    ensures text { OnOk result
+        (out.new ≡ spec.wrote_binder word.now
+        (names.binder_name (names_of scope.now) binders.old.around sort) sort out.old) }
+    ensures name { OnOk result
+        (binders.new.around
+        ≡ binders.old.around
+        ++ names.binder_name (names_of scope.now) binders.old.around sort ∷ []) }
     ensures kept { OnOk result (IsAround (names_of scope.now) binders.new) }
 {
     let depth = binders.around.len();
@@ -305,8 +354,12 @@ pub fn enter_find(
     count: u32,
 ) -> Result<(), NoMemory>
     requires { IsAround (names_of scope.now) binders.old }
-    ensures text { OnOk result (out.new ≡ spec.wrote_names [] (out.old ++ codes "find ") (names.bound_names (names_of scope.now) binders.old.around count) ++ codes " such that ") }
-    ensures names { OnOk result (binders.new.around ≡ binders.old.around ++ names.bound_names (names_of scope.now) binders.old.around count) }
+    ensures text { OnOk result
+        (out.new ≡ spec.wrote_names [] (out.old ++ codes "find ")
+        (names.bound_names (names_of scope.now) binders.old.around count) ++ codes " such that ") }
+    ensures names { OnOk result
+        (binders.new.around
+        ≡ binders.old.around ++ names.bound_names (names_of scope.now) binders.old.around count) }
     ensures kept { OnOk result (IsAround (names_of scope.now) binders.new) }
 {
     let depth = binders.around.len();

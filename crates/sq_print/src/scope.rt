@@ -1,6 +1,8 @@
 // The names that a text is printed with.
 ghost use Rattle.std.specs.Prelude.{◌≡◌, nat_eq, option_map, reverse};
 ghost use Rattle.std.specs.HashMap.{get};
+ghost use Rattle.sq_term.specs.Builtins.{word};
+ghost use Rattle.sq_term.specs.Symbols.{kind_of};
 ghost use Rattle.sq_print.specs.Spellings.{Tells, word_at};
 ghost use Rattle.sq_print.specs.Taken.{HasNames};
 ghost use Rattle.sq_print.specs.Names as spec;
@@ -8,6 +10,7 @@ ghost use Rattle.sq_print.specs.Names as spec;
 use crate::spelling::Spellings;
 use sq_base::{Seq, Text};
 use sq_sym::Table;
+use sq_term::Builtin;
 use std::collections::{HashMap, HashSet};
 
 /// The names of schema variables and variables, and those of a table's symbols.
@@ -45,7 +48,7 @@ impl<'a> Scope<'a> {
     /// The word of a function: its own for a built-in function that has one.
     #[tactic(auto, unfolding(crate::specs::Names::function_word))]
     pub fn function(&self, f: u32) -> &str
-        ensures { result.now ≡ spec.function_word (names_of self.now) f }
+        ensures { result.now ≡ spec.function_word (names_of self.now) (kind_of f) }
     {
         match own_word(f) {
             Some(word) => word,
@@ -61,6 +64,17 @@ impl<'a> Scope<'a> {
     }
 }
 
+/// The word of a built-in function that is written as one.
+#[tactic(auto, using(crate::proofs::Rows::declared_word))]
+fn own_word(function: u32) -> Option<&'static str>
+    ensures { option_map (λ w. w.now) result ≡ word (kind_of function) }
+{
+    match Builtin::of(function) {
+        Some(builtin) => builtin.word(),
+        None => None,
+    }
+}
+
 /// The name of the k-th binder around, counted from the innermost, or nothing where there is none.
 pub fn bound_name(around: &Seq<Text>, k: u32) -> &str
     ensures { result.now ≡ spec.text_at (reverse around.now) k }
@@ -71,23 +85,6 @@ pub fn bound_name(around: &Seq<Text>, k: u32) -> &str
         text_at(around, depth - 1 - k)
     } else {
         ""
-    }
-}
-
-/// The word of a built-in function that is written as one.
-fn own_word(f: u32) -> Option<&'static str>
-    ensures { option_map (λ w. w.now) result ≡ spec.own_word f }
-{
-    match f {
-        0 => Some("empty"),
-        1 => Some("true"),
-        2 => Some("false"),
-        3 => Some("not"),
-        10 => Some("fst"),
-        11 => Some("snd"),
-        12 => Some("of_bool"),
-        13 => Some("att"),
-        _ => None,
     }
 }
 

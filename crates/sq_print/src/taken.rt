@@ -24,7 +24,8 @@ pub fn names_taken(
 }
 
 fn add_names(alloc: Global, names: &mut HashSet<String>, more: &[Text]) -> Result<(), NoMemory>
-    ensures { OnOk result ((q : List ℕ) → contains_text names.new q ≡ (contains_text names.old q || among q more.now)) }
+    ensures { OnOk result ((q : List ℕ) → contains_text names.new q
+        ≡ (contains_text names.old q || among q more.now)) }
 {
     for name in more {
         names.insert(String::from_str(alloc, name.as_str())?)?;

@@ -1,5 +1,6 @@
 // The text of a term, written behind what a buffer holds.
 ghost use Rattle.std.specs.Prelude.{◌≡◌, OnOk};
+ghost use Rattle.sq_term.specs.Symbols.{kind_of};
 ghost use Rattle.sq_term.specs.Syntax.{fun};
 ghost use Rattle.sq_term.specs.View.{term_tree, term_trees};
 ghost use Rattle.sq_print.specs.Written as spec;
@@ -7,21 +8,22 @@ ghost use Rattle.sq_print.specs.Scopes.{names_of};
 ghost use Rattle.sq_print.specs.Supplies.{IsAround, Kept};
 
 use crate::binders::Binders;
-use crate::form::{Form, Layout};
+use crate::form::{Form, end, layout_of};
 use crate::pieces::{
-    close, end_function, enter, enter_find, first_before, open, write_happens, write_head,
-    write_macro, write_name, write_related, write_same_indices,
+    close, end_function, enter, enter_find, first_before, open, write_before, write_happens,
+    write_head, write_macro, write_name, write_related, write_same_indices,
 };
 use crate::scope::{Scope, text_at};
 use sq_base::{NoMemory, Seq, Sort, Text};
-use sq_term::{Idx, Term};
+use sq_term::{Idx, Layout, Term};
 
 /// Writes a term. Parentheses around it are the caller's.
 #[cycle(write)]
 #[tactic(auto, using(crate::proofs::Rows::write_rules))]
 pub fn write(out: &mut Text, scope: &Scope, binders: &mut Binders, t: &Term) -> Result<(), NoMemory>
     requires { IsAround (names_of scope.now) binders.old }
-    ensures text { OnOk result (out.new ≡ spec.wrote (names_of scope.now) binders.old.around out.old (term_tree t.now)) }
+    ensures text { OnOk result
+        (out.new ≡ spec.wrote (names_of scope.now) binders.old.around out.old (term_tree t.now)) }
     ensures kept { OnOk result (Kept (names_of scope.now) binders.old binders.new) }
 {
     match t {
@@ -74,22 +76,20 @@ fn write_function(
     arguments: &[Term],
 ) -> Result<(), NoMemory>
     requires { IsAround (names_of scope.now) binders.old }
-    ensures text { OnOk result (out.new ≡ spec.wrote (names_of scope.now) binders.old.around out.old (fun f indices.now (term_trees arguments.now))) }
+    ensures text { OnOk result
+        (out.new ≡ spec.wrote (names_of scope.now) binders.old.around out.old
+        (fun (kind_of f) indices.now (term_trees arguments.now))) }
     ensures kept { OnOk result (Kept (names_of scope.now) binders.old binders.new) }
 {
-    match Layout::of(f, indices.len(), arguments.len()) {
-        Some(layout) => {
-            write_parts(out, scope, binders, layout, arguments)?;
-            out.push_str(layout.end())?;
-            Ok(())
-        }
-        None => {
-            write_head(out, scope, &binders.around, f, indices)?;
-            let first = first_before(indices);
-            write_arguments(out, scope, binders, first, arguments)?;
-            end_function(out, indices, arguments)?;
-            Ok(())
-        }
+    let layout = layout_of(f, indices.len(), arguments.len());
+    if layout == Layout::Word {
+        write_head(out, scope, &binders.around, f, indices)?;
+        let first = first_before(indices);
+        write_arguments(out, scope, binders, first, arguments)?;
+        end_function(out, indices, arguments)
+    } else {
+        write_parts(out, scope, binders, layout, arguments)?;
+        out.push_str(end(layout))
     }
 }
 
@@ -104,7 +104,9 @@ fn write_quantified(
     body: &Term,
 ) -> Result<(), NoMemory>
     requires { IsAround (names_of scope.now) binders.old }
-    ensures text { OnOk result (out.new ≡ spec.wrote_quantified (names_of scope.now) binders.old.around word.now sort out.old (term_tree body.now)) }
+    ensures text { OnOk result
+        (out.new ≡ spec.wrote_quantified
+        (names_of scope.now) binders.old.around word.now sort out.old (term_tree body.now)) }
     ensures kept { OnOk result (Kept (names_of scope.now) binders.old binders.new) }
 {
     let mark = binders.mark();
@@ -123,7 +125,9 @@ fn write_branch(
     t: &Term,
 ) -> Result<(), NoMemory>
     requires { IsAround (names_of scope.now) binders.old }
-    ensures text { OnOk result (out.new ≡ spec.wrote_branch (names_of scope.now) binders.old.around out.old (term_tree t.now)) }
+    ensures text { OnOk result
+        (out.new ≡ spec.wrote_branch (names_of scope.now) binders.old.around out.old
+        (term_tree t.now)) }
     ensures kept { OnOk result (Kept (names_of scope.now) binders.old binders.new) }
 {
     open(out, Form::Term, Form::of(t))?;
@@ -143,15 +147,18 @@ fn write_parts(
     parts: &[Term],
 ) -> Result<(), NoMemory>
     requires { IsAround (names_of scope.now) binders.old }
-    ensures text { OnOk result (out.new ≡ spec.wrote_parts (names_of scope.now) binders.old.around layout 0 out.old (term_trees parts.now)) }
+    ensures text { OnOk result
+        (out.new ≡ spec.wrote_parts (names_of scope.now) binders.old.around layout 0 out.old
+        (term_trees parts.now)) }
     ensures kept { OnOk result (Kept (names_of scope.now) binders.old binders.new) }
 {
     for (k, part) in parts.iter().enumerate() {
         let own = Form::of(part);
-        out.push_str(layout.before(k))?;
-        open(out, layout.place(k), own)?;
+        let place = Form::place(layout, k);
+        write_before(out, layout, k)?;
+        open(out, place, own)?;
         write(out, scope, binders, part)?;
-        close(out, layout.place(k), own)?;
+        close(out, place, own)?;
     }
     Ok(())
 }
@@ -167,7 +174,9 @@ fn write_arguments(
     arguments: &[Term],
 ) -> Result<(), NoMemory>
     requires { IsAround (names_of scope.now) binders.old }
-    ensures text { OnOk result (out.new ≡ spec.wrote_arguments (names_of scope.now) binders.old.around first.now out.old (term_trees arguments.now)) }
+    ensures text { OnOk result
+        (out.new ≡ spec.wrote_arguments (names_of scope.now) binders.old.around first.now out.old
+        (term_trees arguments.now)) }
     ensures kept { OnOk result (Kept (names_of scope.now) binders.old binders.new) }
 {
     let mut before = first;

@@ -1,88 +1,50 @@
 -- The names of binders differ from each other and from all other names.
-use Rattle.std.proofs.Common.{◌≡◌, ◌≢◌, ◌<◌, ◌≤◌, ◌+◌, ◌^◌, ◌⊎◌, inl, inr, ℕ, zero, suc, Bool, true, false, cond, ◌||◌, List, [], ◌∷◌, ◌++◌, length, map, reverse, Option, Some, None, slice_get, refl, sym, ap, ◌∙◌, subst, arith, length-append}
+use Rattle.std.proofs.Common.{◌≡◌, ◌≢◌, ◌<◌, ◌≤◌, ◌+◌, ◌^◌, ◌⊎◌, inl, inr, ℕ, zero, suc, Bool, true}
+use Rattle.std.proofs.Common.{false, cond, ◌||◌, List, [], ◌∷◌, ◌++◌, length, map, reverse, Option}
+use Rattle.std.proofs.Common.{Some, None, slice_get, refl, sym, ap, ◌∙◌, subst, arith}
+use Rattle.std.proofs.Common.{length-append}
 use Rattle.std.specs.Str.{bytes_eq}
 use Rattle.std.proofs.lemmas.Bool.{false≢true, cases_eq}
 use Rattle.std.proofs.lemmas.List.{map-append, reverse-append}
 use Rattle.sq_base.specs.declared.sort.Sort.{Sort}
 use Rattle.sq_token.specs.Kinds.{IsIdentifier}
 use Rattle.sq_term.proofs.SameTrees.{is_same_sort-decides}
-use Rattle.sq_system.specs.Typing.{has_sort_at}
-use Rattle.sq_print.specs.Names.{Names, candidate, among, is_used, first_free, names_count, binder_name, stem}
+use Rattle.sq_typing.specs.Typing.{has_sort_at}
+use Rattle.sq_print.specs.Names.{Names, candidate, among, is_used, first_free, names_count}
+use Rattle.sq_print.specs.Names.{binder_name, stem}
 use Rattle.sq_print.proofs.Candidates.{differ, equal}
-use Rattle.sq_print.proofs.Supplied.{few}
+use Rattle.sq_print.proofs.FreeNames.{binder_free}
 use Rattle.sq_resolve.specs.Scopes.{Variable, last_from, last_of}
 use Rattle.sq_readback.proofs.Standing.{Bound, StandAround}
-
--- ---- the first free candidate is free
-
-abbrev is_taken : Names → List (List ℕ) → List ℕ → ℕ → Bool
-is_taken ns around s k = is_used ns (candidate s k) || among (candidate s k) around
-
-pub record IsFirst (ns : Names) (around : List (List ℕ)) (s x : List ℕ) (most : ℕ) : Type 0 where
-  pub k : ℕ
-  pub within : k ≤ most
-  pub is : x ≡ candidate s k
-  pub free : is_taken ns around s k ≡ false
-
-free_or_all : (ns : Names) (around : List (List ℕ)) (s : List ℕ) (left j : ℕ) → ((i : ℕ) → i < j → is_taken ns around s i ≡ true)
-    → IsFirst ns around s (first_free ns around s left j) (j + left) ⊎ ((i : ℕ) → i < j + left + 1 → is_taken ns around s i ≡ true)
-free_or_all ns around s zero j before = by (is_taken ns around s j) refl
-  where
-    by : (b : Bool) → is_taken ns around s j ≡ b → IsFirst ns around s (candidate s j) (j + 0) ⊎ ((i : ℕ) → i < j + 0 + 1 → is_taken ns around s i ≡ true)
-    by false e = inl (record { k = j; within = omega arith; is = refl; free = e })
-    by true e = inr (λ i h. one i h (cases_eq i j))
-      where
-        one : (i : ℕ) → i < j + 0 + 1 → (i ≡ j) ⊎ (i ≢ j) → is_taken ns around s i ≡ true
-        one i h (inl same) = ap (is_taken ns around s) same ∙ e
-        one i h (inr ne) = before i (omega arith)
-free_or_all ns around s (suc left) j before = by (is_taken ns around s j) refl (λ more. free_or_all ns around s left (j + 1) more)
-  where
-    by : (b : Bool) → is_taken ns around s j ≡ b
-        → (((i : ℕ) → i < j + 1 → is_taken ns around s i ≡ true) → IsFirst ns around s (first_free ns around s left (j + 1)) (j + 1 + left) ⊎ ((i : ℕ) → i < j + 1 + left + 1 → is_taken ns around s i ≡ true))
-        → IsFirst ns around s (cond b (first_free ns around s left (j + 1)) (candidate s j)) (j + suc left) ⊎ ((i : ℕ) → i < j + suc left + 1 → is_taken ns around s i ≡ true)
-    by false e rest = inl (record { k = j; within = omega arith; is = refl; free = e })
-    by true e rest = wider (rest (λ i h. one i h (cases_eq i j)))
-      where
-        one : (i : ℕ) → i < j + 1 → (i ≡ j) ⊎ (i ≢ j) → is_taken ns around s i ≡ true
-        one i h (inl same) = ap (is_taken ns around s) same ∙ e
-        one i h (inr ne) = before i (omega arith)
-
-        wider : IsFirst ns around s (first_free ns around s left (j + 1)) (j + 1 + left) ⊎ ((i : ℕ) → i < j + 1 + left + 1 → is_taken ns around s i ≡ true)
-            → IsFirst ns around s (first_free ns around s left (j + 1)) (j + suc left) ⊎ ((i : ℕ) → i < j + suc left + 1 → is_taken ns around s i ≡ true)
-        wider (inl f) = let le = f.within in inl (record { k = f.k; within = omega arith; is = f.is; free = f.free })
-        wider (inr all) = inr (λ i h. all i (omega arith))
-
--- so many candidates cannot all be taken
-pub binder_free : (ns : Names) (around : List (List ℕ)) (s : Sort) → names_count ns around + 1 ≤ 2 ^ 64 → IsFirst ns around (stem s) (binder_name ns around s) (names_count ns around)
-unfolding binder_name
-binder_free ns around s w = by (free_or_all ns around (stem s) (names_count ns around) 0 (λ i h. absurd (omega arith)))
-  where
-    by : IsFirst ns around (stem s) (first_free ns around (stem s) (names_count ns around) 0) (0 + names_count ns around) ⊎ ((i : ℕ) → i < 0 + names_count ns around + 1 → is_taken ns around (stem s) i ≡ true)
-        → IsFirst ns around (stem s) (first_free ns around (stem s) (names_count ns around) 0) (names_count ns around)
-    by (inl f) = let most = f.within in record { k = f.k; within = omega arith; is = f.is; free = f.free }
-    by (inr all) = let most = few ns around (stem s) (names_count ns around + 1) w (λ i h. all i (omega arith)) in absurd (omega arith)
 
 -- ---- places of names
 
 last_pushed : (k : ℕ) (best : Option (ℕ × Sort)) (x : List ℕ) (bs : List Variable) (v : Variable)
-    → last_from k best x (bs ++ v ∷ []) ≡ cond (bytes_eq x v.0) (Some (k + length bs, v.1)) (last_from k best x bs)
-last_pushed k best x [] v = let e : k ≡ k + 0 = omega arith in ap (λ n. cond (bytes_eq x v.0) (Some (n, v.1)) best) e
+    → last_from k best x (bs ++ v ∷ []) ≡ cond (bytes_eq x v.0) (Some (k + length bs, v.1))
+    (last_from k best x bs)
+last_pushed k best x [] v = let e : k ≡ k + 0 =
+    omega arith in ap (λ n. cond (bytes_eq x v.0) (Some (n, v.1)) best) e
 last_pushed k best x (b ∷ bs) v =
     let e : k + 1 + length bs ≡ k + suc (length bs) = omega arith in
     let rest = cond (bytes_eq x b.0) (Some (k, b.1)) best in
-    last_pushed (k + 1) rest x bs v ∙ ap (λ n. cond (bytes_eq x v.0) (Some (n, v.1)) (last_from (k + 1) rest x bs)) e
+    last_pushed (k + 1) rest x bs v
+    ∙ ap (λ n. cond (bytes_eq x v.0) (Some (n, v.1)) (last_from (k + 1) rest x bs)) e
 
-last_none : (k : ℕ) (x : List ℕ) (bs : List Variable) → among x (map (λ v. v.0) bs) ≡ false → last_from k None x bs ≡ None
+last_none : (k : ℕ) (x : List ℕ) (bs : List Variable) → among x (map (λ v. v.0) bs) ≡ false
+    → last_from k None x bs ≡ None
 last_none k x [] e = refl
 last_none k x (b ∷ bs) e = by (bytes_eq x b.0) e (λ h. last_none (k + 1) x bs h)
   where
-    by : (t : Bool) → (t || among x (map (λ v. v.0) bs)) ≡ false → (among x (map (λ v. v.0) bs) ≡ false → last_from (k + 1) None x bs ≡ None)
+    by : (t : Bool) → (t || among x (map (λ v. v.0) bs)) ≡ false
+        → (among x (map (λ v. v.0) bs) ≡ false → last_from (k + 1) None x bs ≡ None)
         → last_from (k + 1) (cond t (Some (k, b.1)) None) x bs ≡ None
     by true h rest = cc
     by false h rest = rest h
 
-names_pushed : (bs : List Variable) (v : Variable) → reverse (map (λ w. w.0) (bs ++ v ∷ [])) ≡ v.0 ∷ reverse (map (λ w. w.0) bs)
-names_pushed bs v = ap reverse (map-append (λ w. w.0) bs (v ∷ [])) ∙ reverse-append (map (λ w. w.0) bs) (v.0 ∷ [])
+names_pushed : (bs : List Variable) (v : Variable) → reverse (map (λ w. w.0) (bs ++ v ∷ []))
+    ≡ v.0 ∷ reverse (map (λ w. w.0) bs)
+names_pushed bs v = ap reverse (map-append (λ w. w.0) bs (v ∷ []))
+    ∙ reverse-append (map (λ w. w.0) bs) (v.0 ∷ [])
 
 -- ---- one binder more
 
@@ -94,18 +56,23 @@ pub record IsFresh (ns : Names) (bs : List Variable) (x : List ℕ) : Type 0 whe
 pub none_around : (ns : Names) → StandAround ns [] []
 none_around ns = record { inner = λ k s h. absurd (false≢true h); unused = λ x h. refl }
 
-pub one_around : (ns : Names) (bs : List Variable) (ss : List Sort) (x : List ℕ) (s : Sort) → StandAround ns bs ss → IsFresh ns bs x → StandAround ns (bs ++ (x, s) ∷ []) (s ∷ ss)
+pub one_around : (ns : Names) (bs : List Variable) (ss : List Sort) (x : List ℕ) (s : Sort)
+    → StandAround ns bs ss → IsFresh ns bs x → StandAround ns (bs ++ (x, s) ∷ []) (s ∷ ss)
 one_around ns bs ss x s st fresh = record { inner = inner; unused = unused }
   where
     other : (y : List ℕ) → y ≢ x → last_of y (bs ++ (x, s) ∷ []) ≡ last_of y bs
-    other y ne = last_pushed 0 None y bs (x, s) ∙ ap (λ b. cond b (Some (0 + length bs, s)) (last_of y bs)) (differ y x ne)
+    other y ne =
+        last_pushed 0 None y bs (x, s)
+        ∙ ap (λ b. cond b (Some (0 + length bs, s)) (last_of y bs)) (differ y x ne)
 
     inner : (k : ℕ) (r : Sort) → has_sort_at (s ∷ ss) k r ≡ true → Bound (bs ++ (x, s) ∷ []) k r
     inner zero r h =
         let same : s ≡ r = (is_same_sort-decides s r).0 h in
         let here = ap (λ l. slice_get l 0) (names_pushed bs (x, s)) in
         let from_zero : 0 + length bs ≡ length bs = omega arith in
-        let last = last_pushed 0 None x bs (x, s) ∙ ap (λ b. cond b (Some (0 + length bs, s)) (last_of x bs)) (equal x x refl) in
+        let last =
+        last_pushed 0 None x bs (x, s)
+        ∙ ap (λ b. cond b (Some (0 + length bs, s)) (last_of x bs)) (equal x x refl) in
         record {
           x = x;
           place = length bs;
@@ -118,7 +85,8 @@ one_around ns bs ss x s st fresh = record { inner = inner; unused = unused }
         let b = st.inner k r h in
         let none = fresh.apart in
         let known = b.last in
-        let ne : b.x ≢ x = λ e. let clash : last_of x bs ≡ Some (b.place, r) = ap (λ y. last_of y bs) (sym e) ∙ known in cc in
+        let ne : b.x ≢ x = λ e. let clash : last_of x bs ≡ Some (b.place, r) =
+        ap (λ y. last_of y bs) (sym e) ∙ known in cc in
         let long = length-append bs ((x, s) ∷ []) in
         record {
           x = b.x;
@@ -130,16 +98,22 @@ one_around ns bs ss x s st fresh = record { inner = inner; unused = unused }
         }
 
     unused : (y : List ℕ) → is_used ns y ≡ true → last_of y (bs ++ (x, s) ∷ []) ≡ None
-    unused y h = other y (λ e. false≢true (sym fresh.unused ∙ (ap (is_used ns) (sym e) ∙ h))) ∙ st.unused y h
+    unused y h = other y (λ e. false≢true (sym fresh.unused ∙ (ap (is_used ns) (sym e) ∙ h)))
+        ∙ st.unused y h
 
 -- the name of the next binder is fresh
-pub next_fresh : (ns : Names) (bs : List Variable) (s : Sort) → names_count ns (map (λ v. v.0) bs) + 1 ≤ 2 ^ 64 → ((k : ℕ) → k < 2 ^ 64 → IsIdentifier (candidate (stem s) k)) → IsFresh ns bs (binder_name ns (map (λ v. v.0) bs) s)
+pub next_fresh : (ns : Names) (bs : List Variable) (s : Sort)
+    → names_count ns (map (λ v. v.0) bs) + 1 ≤ 2 ^ 64
+    → ((k : ℕ) → k < 2 ^ 64 → IsIdentifier (candidate (stem s) k))
+    → IsFresh ns bs (binder_name ns (map (λ v. v.0) bs) s)
 next_fresh ns bs s w named =
     let around = map (λ v. v.0) bs in
     let first = binder_free ns around s w in
-    let free : (is_used ns (binder_name ns around s) || among (binder_name ns around s) around) ≡ false = ap (λ x. is_used ns x || among x around) first.is ∙ first.free in
+    let free : (is_used ns (binder_name ns around s) || among (binder_name ns around s) around)
+    ≡ false = ap (λ x. is_used ns x || among x around) first.is ∙ first.free in
     record {
-      identifier = subst IsIdentifier (sym first.is) (named first.k (let le = first.within in omega arith));
+      identifier =
+          subst IsIdentifier (sym first.is) (named first.k (let le = first.within in omega arith));
       unused = left_false _ _ free;
       apart = last_none 0 (binder_name ns around s) bs (right_false _ _ free);
     }

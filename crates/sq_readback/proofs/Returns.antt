@@ -1,12 +1,14 @@
 -- What is printed comes back as the same term.
-use Rattle.std.proofs.Common.{◌≡◌, ◌≤◌, ℕ, true, cond, ◌&&◌, nat_le, List, [], ◌∷◌, ◌++◌, map, codes, Some, Ok, Err, slice_get, refl, sym, ap, ◌∙◌, subst, arith}
+use Rattle.std.proofs.Common.{◌≡◌, ◌≤◌, ℕ, true, cond, ◌&&◌, nat_le, List, [], ◌∷◌, ◌++◌, map}
+use Rattle.std.proofs.Common.{codes, Some, Ok, Err, slice_get, refl, sym, ap, ◌∙◌, subst, arith}
 use Rattle.std.proofs.lemmas.Bool.Decides.{nat_tests}
 use Rattle.sq_base.specs.declared.sort.Sort.{Sort}
 use Rattle.sq_base.specs.declared.sort.Sort.TheVariants.{Message, Boolean, Index, Timestamp}
 use Rattle.sq_token.specs.declared.token.Token.{Token}
 use Rattle.sq_token.specs.declared.token.Sentence.{Sentence}
 use Rattle.sq_token.specs.Sign.{sign_of, signs}
-use Rattle.sq_lex.specs.Lex.{Line, lexeme_of, line_of, lexemes, sentences}
+use Rattle.sq_lex.specs.Lexemes.{Line, lexeme_of, line_of}
+use Rattle.sq_lex.specs.Lex.{lexemes, sentences}
 use Rattle.sq_parse_term.specs.Answers.{IsFormula}
 use Rattle.sq_ast.specs.declared.formula.Form.TheVariants.{Formula}
 use Rattle.sq_ast.specs.Tree.{FormulaTree}
@@ -14,7 +16,7 @@ use Rattle.sq_ast.specs.Grammar.{spelled, Is}
 use Rattle.sq_parse_term.proofs.Within.{one_tree}
 use Rattle.sq_term.specs.Measure.{size, depth}
 use Rattle.sq_term.specs.Syntax.{TermTree}
-use Rattle.sq_system.specs.Functions.{is_value_sort}
+use Rattle.sq_typing.specs.Functions.{is_value_sort}
 use Rattle.sq_print.specs.Printed.{term_text}
 use Rattle.sq_resolve.specs.declared.fault.ResolveFault.TheVariants.{TooLarge}
 use Rattle.sq_resolve.specs.Scopes.{Context}
@@ -47,35 +49,48 @@ value Timestamp e = cc
 own_names_are : (c : Context) → AreNamesOf (names_of c) c
 own_names_are c = record { vars = refl; schemas = refl; system = refl; table = refl }
 
-names_are : (c : Context) (s : Sort) (t : TermTree) → IsReadable c s t → IsNamed (term_syntax (names_of c) [] t)
+names_are : (c : Context) (s : Sort) (t : TermTree) → IsReadable c s t
+    → IsNamed (term_syntax (names_of c) [] t)
 names_are c s t h =
     let few = h.few in
-    named c (names_of c) (own_actions c) (own_names_are c) (plain_names c h.plain) [] [] (none_around (names_of c)) s t (omega arith) h.sorted h.no_att (writable (signature c) [] s t h.sorted h.finds_bind)
+    named c (names_of c) (own_actions c) (own_names_are c) (plain_names c h.plain) [] []
+    (none_around (names_of c)) s t (omega arith) h.sorted h.words
+    (writable (signature c) [] s t h.sorted h.finds_bind)
 
-term_has : (c : Context) (s : Sort) (t : TermTree) → IsReadable c s t → IsTerm c [] s (term_syntax (names_of c) [] t) t
+term_has : (c : Context) (s : Sort) (t : TermTree) → IsReadable c s t
+    → IsTerm c [] s (term_syntax (names_of c) [] t) t
 term_has c s t h =
     let few = h.few in
     let plain = plain_names c h.plain in
-    (term_is c (names_of c) (own_actions c) (own_names_are c) plain plain.builtin [] [] (none_around (names_of c)) s (value s h.value) t (omega arith) h.sorted h.no_att (writable (signature c) [] s t h.sorted h.finds_bind)).0
+    (term_is c (names_of c) (own_actions c) (own_names_are c) plain [] []
+    (none_around (names_of c)) s (value s h.value) t (omega arith) h.sorted h.words
+    (writable (signature c) [] s t h.sorted h.finds_bind)).0
 
-pub read_back : (c : Context) (s : Sort) (t : TermTree) → IsReadable c s t → IsReadBack c s (term_text (names_of c) [] t) t
+pub read_back : (c : Context) (s : Sort) (t : TermTree) → IsReadable c s t
+    → IsReadBack c s (term_text (names_of c) [] t) t
 read_back c s t h = record {
   tree = term_syntax (names_of c) [] t;
   signs = spelled (term_syntax (names_of c) [] t);
-  read = subst (λ x. IsRead x (spelled (term_syntax (names_of c) [] t))) (text_is (names_of c) [] t) (text_read (term_syntax (names_of c) [] t) (names_are c s t h));
+  read = subst (λ x. IsRead x (spelled (term_syntax (names_of c) [] t))) (text_is (names_of c) [] t)
+      (text_read (term_syntax (names_of c) [] t) (names_are c s t h));
   formula = is_formula (names_of c) [] t (writable (signature c) [] s t h.sorted h.finds_bind);
   term = term_has c s t h;
 }
 
-pub apart : (c : Context) (s : Sort) (t u : TermTree) → IsReadable c s t → IsReadable c s u → term_text (names_of c) [] t ≡ term_text (names_of c) [] u → t ≡ u
+pub apart : (c : Context) (s : Sort) (t u : TermTree) → IsReadable c s t → IsReadable c s u
+    → term_text (names_of c) [] t ≡ term_text (names_of c) [] u → t ≡ u
 apart c s t u h i same =
     let a = read_back c s t h in
     let b = read_back c s u i in
     let first = a.read 0 in
     let second = b.read 0 in
-    let texts : signs_read (lexemes 0 0 (term_text (names_of c) [] t)) ≡ signs_read (lexemes 0 0 (term_text (names_of c) [] u)) = ap (λ x. signs_read (lexemes 0 0 x)) same in
+    let texts : signs_read (lexemes 0 0 (term_text (names_of c) [] t))
+    ≡ signs_read (lexemes 0 0 (term_text (names_of c) [] u)) =
+    ap (λ x. signs_read (lexemes 0 0 x)) same in
     let signs : b.signs ≡ a.signs = cc in
-    let tree : b.tree ≡ a.tree = one_tree Formula b.tree a.tree a.signs (subst (Is Formula b.tree) signs b.formula) a.formula in
+    let tree : b.tree ≡ a.tree =
+    one_tree Formula b.tree a.tree a.signs
+    (subst (Is Formula b.tree) signs b.formula) a.formula in
     one_term c [] s a.tree t u a.term (subst (λ f. IsTerm c [] s f u) tree b.term)
 
 fits : (n k : ℕ) → n ≤ 65536 → k ≤ 1000 → within_limits n k ≡ true
@@ -84,7 +99,8 @@ fits n k a b =
     let second : nat_le k 1000 ≡ true = grind (arith, nat_tests) in
     ap (λ x. x && nat_le k 1000) first ∙ second
 
-pub calls_give : (c : Context) (s : Sort) (t : TermTree) → IsReadable c s t → IsWithinLimits c t → ComesBack c s (term_text (names_of c) [] t) t
+pub calls_give : (c : Context) (s : Sort) (t : TermTree) → IsReadable c s t → IsWithinLimits c t
+    → ComesBack c s (term_text (names_of c) [] t) t
 calls_give c s t h w =
     let tree = term_syntax (names_of c) [] t in
     let cut = text_sentence tree (names_are c s t h) in
@@ -96,7 +112,9 @@ calls_give c s t h w =
       sentence = cut.line;
       lexed = ap (λ x. sentences (x ++ codes ".")) (sym (text_is (names_of c) [] t)) ∙ cut.found_is;
       tree = tree;
-      parsed = subst (λ x. IsOnlyFormula x tree) (sym cut.signs_are) (only_formula tree (built (names_of c) [] t (writable (signature c) [] s t h.sorted h.finds_bind)) w.depth);
+      parsed = subst (λ x. IsOnlyFormula x tree) (sym cut.signs_are)
+          (only_formula tree
+          (built (names_of c) [] t (writable (signature c) [] s t h.sorted h.finds_bind)) w.depth);
       resolved = ap limited_term term ∙ ap (λ b. cond b (Ok t) (Err TooLarge)) room;
     }
 
@@ -104,19 +122,26 @@ signs_same : (ts : List Token) → map sign_at (map lexeme_of ts) ≡ signs ts
 signs_same [] = refl
 signs_same (t ∷ ts) = ap (λ x. sign_of t ∷ x) (signs_same ts)
 
-first_line : (found : List Sentence) (first : Sentence) (l : Line) → slice_get found 0 ≡ Some first → map line_of found ≡ l ∷ [] → line_of first ≡ l
+first_line : (found : List Sentence) (first : Sentence) (l : Line) → slice_get found 0 ≡ Some first
+    → map line_of found ≡ l ∷ [] → line_of first ≡ l
 first_line [] first l e h = cc
-first_line (s ∷ ss) first l e h = let same : s ≡ first = cc in let line : line_of s ≡ l = cc in ap line_of (sym same) ∙ line
+first_line (s ∷ ss) first l e h = let same : s ≡ first = cc in let line : line_of s ≡ l =
+    cc in ap line_of (sym same) ∙ line
 
 -- what the calls answer is the term
-pub comes_back : (c : Context) (s : Sort) (t : TermTree) → IsReadable c s t → IsWithinLimits c t → (found : List Sentence) → sentences (term_text (names_of c) [] t ++ codes ".") ≡ Ok (map line_of found)
-    → (f : FormulaTree) → IsFormulaOf found f → (u : TermTree) → limited_term (term_of c [] s f) ≡ Ok u → u ≡ t
+pub comes_back : (c : Context) (s : Sort) (t : TermTree) → IsReadable c s t → IsWithinLimits c t
+    → (found : List Sentence) → sentences (term_text (names_of c) [] t ++ codes ".")
+    ≡ Ok (map line_of found)
+    → (f : FormulaTree) → IsFormulaOf found f → (u : TermTree)
+    → limited_term (term_of c [] s f) ≡ Ok u → u ≡ t
 comes_back c s t h w found lexed f of u resolved =
     let g = calls_give c s t h w in
     let given = g.lexed in
     let lines : map line_of found ≡ g.sentence ∷ [] = cc in
     let line = first_line found of.first g.sentence of.there lines in
-    let tokens : signs of.first.tokens ≡ map sign_at g.sentence.tokens = sym (signs_same of.first.tokens) ∙ ap (λ (l : Line). map sign_at l.tokens) line in
+    let tokens : signs of.first.tokens ≡ map sign_at g.sentence.tokens =
+    sym (signs_same of.first.tokens) ∙ ap (λ (l : Line). map sign_at l.tokens) line in
     let tree = (g.parsed.only f of.rest (subst (λ x. IsFormula x f of.rest) tokens of.formula)).0 in
-    let same : limited_term (term_of c [] s f) ≡ Ok t = ap (λ x. limited_term (term_of c [] s x)) tree ∙ g.resolved in
+    let same : limited_term (term_of c [] s f) ≡ Ok t =
+    ap (λ x. limited_term (term_of c [] s x)) tree ∙ g.resolved in
     cc

@@ -1,5 +1,6 @@
 -- With a stop behind it, the text of a syntax tree is one sentence.
-use Rattle.std.proofs.Common.{◌≡◌, ℕ, Bool, true, false, cond, List, [], ◌∷◌, ◌++◌, map, codes, Some, Result, Ok, Err, append_assoc, append-nil, refl, sym, ap, ◌∙◌}
+use Rattle.std.proofs.Common.{◌≡◌, ℕ, Bool, true, false, cond, List, [], ◌∷◌, ◌++◌, map, codes}
+use Rattle.std.proofs.Common.{Some, Result, Ok, Err, append_assoc, append-nil, refl, sym, ap, ◌∙◌}
 use Rattle.std.specs.Prelude.{⊤, nat_lt}
 use Rattle.std.specs.List.{list_all}
 use Rattle.std.specs.Str.{IsUtf8, is_utf8}
@@ -13,15 +14,23 @@ use Rattle.sq_token.specs.Kinds.{punctuation_text, reserved_text}
 use Rattle.sq_token.specs.Sign.{Sign, sign, mark}
 use Rattle.sq_lex.specs.declared.fault.LexFault.{LexFault}
 use Rattle.sq_lex.specs.declared.fault.LexFault.TheVariants as fault
-use Rattle.sq_lex.specs.Lex.{Lexeme, Line, lexemes, is_stop, sentence, prepend, cut, cut_all, sentences}
-use Rattle.sq_lex.proofs.Fits.{ascii}
+use Rattle.sq_lex.specs.Lexemes.{Lexeme, Line, is_stop}
+use Rattle.sq_lex.specs.Lex.{lexemes, sentence, prepend, cut, cut_all, sentences}
+use Rattle.sq_lex.proofs.Symbols.{ascii}
 use Rattle.sq_ast.specs.declared.formula.Binary.{Binary}
-use Rattle.sq_ast.specs.declared.formula.Binary.TheVariants.{Implies, Or, And, Equal, NotEqual, LessEqual, Less}
-use Rattle.sq_ast.specs.Tree.{Group, FormulaTree, quantified, binary, group, pair, constant, conditional, find, diff, unary, value, name, apply, FormulaTrees, none, more}
-use Rattle.sq_ast.specs.Grammar.{quantifier_word, binary_mark, constant_word, unary_word, macro_word, sort_word, names_spelled, more_names_spelled, group_spelled, groups_spelled, more_groups_spelled, spelled, list_spelled, more_spelled}
+use Rattle.sq_ast.specs.declared.formula.Binary.TheVariants.{Implies, Or, And, Equal, NotEqual}
+use Rattle.sq_ast.specs.declared.formula.Binary.TheVariants.{LessEqual, Less}
+use Rattle.sq_ast.specs.Tree.{Group, FormulaTree, quantified, binary, group, pair, constant}
+use Rattle.sq_ast.specs.Tree.{conditional, find, diff, unary, value, name, apply, FormulaTrees}
+use Rattle.sq_ast.specs.Tree.{none, more}
+use Rattle.sq_ast.specs.Grammar.{quantifier_word, binary_mark, constant_word, unary_word}
+use Rattle.sq_ast.specs.Grammar.{macro_word, sort_word, names_spelled, more_names_spelled}
+use Rattle.sq_ast.specs.Grammar.{group_spelled, groups_spelled, more_groups_spelled, spelled}
+use Rattle.sq_ast.specs.Grammar.{list_spelled, more_spelled}
 use Rattle.sq_print.specs.Printed.{joined}
 use Rattle.sq_readback.specs.Trees.{group_text, text_of, texts_of}
-use Rattle.sq_readback.specs.Reads.{sign_at, signs_read, AreIdentifiers, AreNamedGroups, IsNamed, AreNamed}
+use Rattle.sq_readback.specs.Reads.{sign_at, signs_read, AreIdentifiers, AreNamedGroups, IsNamed}
+use Rattle.sq_readback.specs.Reads.{AreNamed}
 use Rattle.sq_readback.proofs.Tokens.{nothing_left, identifier_word, used, dot_ends, dot_first}
 use Rattle.sq_readback.proofs.Reading.{tree_read}
 
@@ -37,10 +46,13 @@ abbrev AreUtf8 : List (List ℕ) → Type 0
 AreUtf8 [] = ⊤
 AreUtf8 (x ∷ xs) = IsUtf8 x × AreUtf8 xs
 
-joined_utf8 : (between : List ℕ) (xs : List (List ℕ)) → IsUtf8 between → AreUtf8 xs → IsUtf8 (joined between xs)
+joined_utf8 : (between : List ℕ) (xs : List (List ℕ)) → IsUtf8 between → AreUtf8 xs
+    → IsUtf8 (joined between xs)
 joined_utf8 between [] b h = IsUtf8-nil
 joined_utf8 between (x ∷ []) b h = h.0
-joined_utf8 between (x ∷ y ∷ ys) b h = both_utf8 x (between ++ joined between (y ∷ ys)) h.0 (both_utf8 between (joined between (y ∷ ys)) b (joined_utf8 between (y ∷ ys) b h.1))
+joined_utf8 between (x ∷ y ∷ ys) b h =
+    both_utf8 x (between ++ joined between (y ∷ ys)) h.0
+    (both_utf8 between (joined between (y ∷ ys)) b (joined_utf8 between (y ∷ ys) b h.1))
 
 names_utf8 : (xs : List (List ℕ)) → AreIdentifiers xs → AreUtf8 xs
 names_utf8 [] h = tt
@@ -48,8 +60,10 @@ names_utf8 (x ∷ xs) h = ((identifier_word x h.0).utf8, names_utf8 xs h.1)
 
 group_utf8 : (g : Group) → AreIdentifiers g.0 → IsUtf8 (group_text g)
 group_utf8 g h =
-    both_utf8 (joined (codes ", ") g.0) (codes ":" ++ reserved_text (sort_word g.1)) (joined_utf8 (codes ", ") g.0 (plain (codes ", ") refl) (names_utf8 g.0 h))
-    (both_utf8 (codes ":") (reserved_text (sort_word g.1)) (plain (codes ":") refl) (used (sort_word g.1)).utf8)
+    both_utf8 (joined (codes ", ") g.0) (codes ":" ++ reserved_text (sort_word g.1))
+    (joined_utf8 (codes ", ") g.0 (plain (codes ", ") refl) (names_utf8 g.0 h))
+    (both_utf8 (codes ":") (reserved_text (sort_word g.1)) (plain (codes ":") refl)
+    (used (sort_word g.1)).utf8)
 
 groups_utf8 : (gs : List Group) → AreNamedGroups gs → AreUtf8 (map group_text gs)
 groups_utf8 [] h = tt
@@ -69,10 +83,17 @@ mutual
   tree_utf8 (quantified q gs a) h =
       both_utf8 (reserved_text (quantifier_word q)) _ (used (quantifier_word q)).utf8
       (both_utf8 (codes " (") _ (plain (codes " (") refl)
-      (both_utf8 (joined (codes ", ") (map group_text gs)) _ (joined_utf8 (codes ", ") (map group_text gs) (plain (codes ", ") refl) (groups_utf8 gs h.0))
+      (both_utf8 (joined (codes ", ") (map group_text gs)) _
+      (joined_utf8 (codes ", ") (map group_text gs) (plain (codes ", ") refl)
+      (groups_utf8 gs h.0))
       (both_utf8 (codes "), ") (text_of a) (plain (codes "), ") refl) (tree_utf8 a h.1))))
-  tree_utf8 (binary o a b) h = both_utf8 (text_of a) _ (tree_utf8 a h.0) (both_utf8 (codes " " ++ (punctuation_text (binary_mark o) ++ codes " ")) (text_of b) (operator_utf8 o) (tree_utf8 b h.1))
-  tree_utf8 (group a) h = both_utf8 (codes "(") _ (plain (codes "(") refl) (both_utf8 (text_of a) (codes ")") (tree_utf8 a h) (plain (codes ")") refl))
+  tree_utf8 (binary o a b) h =
+      both_utf8 (text_of a) _ (tree_utf8 a h.0)
+      (both_utf8 (codes " " ++ (punctuation_text (binary_mark o) ++ codes " ")) (text_of b)
+      (operator_utf8 o) (tree_utf8 b h.1))
+  tree_utf8 (group a) h =
+      both_utf8 (codes "(") _ (plain (codes "(") refl)
+      (both_utf8 (text_of a) (codes ")") (tree_utf8 a h) (plain (codes ")") refl))
   tree_utf8 (pair a b) h =
       both_utf8 (codes "<") _ (plain (codes "<") refl)
       (both_utf8 (text_of a) _ (tree_utf8 a h.0)
@@ -87,7 +108,8 @@ mutual
       (both_utf8 (codes " else ") (text_of c) (plain (codes " else ") refl) (tree_utf8 c h.2)))))
   tree_utf8 (find xs a b c) h =
       both_utf8 (codes "find ") _ (plain (codes "find ") refl)
-      (both_utf8 (joined (codes ", ") xs) _ (joined_utf8 (codes ", ") xs (plain (codes ", ") refl) (names_utf8 xs h.0))
+      (both_utf8 (joined (codes ", ") xs) _
+      (joined_utf8 (codes ", ") xs (plain (codes ", ") refl) (names_utf8 xs h.0))
       (both_utf8 (codes " such that ") _ (plain (codes " such that ") refl)
       (both_utf8 (text_of a) _ (tree_utf8 a h.1)
       (both_utf8 (codes " in ") _ (plain (codes " in ") refl)
@@ -100,12 +122,18 @@ mutual
       (both_utf8 (text_of b) (codes ")") (tree_utf8 b h.1) (plain (codes ")") refl))))
   tree_utf8 (unary u a) h =
       both_utf8 (reserved_text (unary_word u)) _ (used (unary_word u)).utf8
-      (both_utf8 (codes "(") _ (plain (codes "(") refl) (both_utf8 (text_of a) (codes ")") (tree_utf8 a h) (plain (codes ")") refl)))
-  tree_utf8 (value w a) h = both_utf8 (reserved_text (macro_word w)) _ (used (macro_word w)).utf8 (both_utf8 (codes "@") (text_of a) (plain (codes "@") refl) (tree_utf8 a h))
+      (both_utf8 (codes "(") _ (plain (codes "(") refl)
+      (both_utf8 (text_of a) (codes ")") (tree_utf8 a h) (plain (codes ")") refl)))
+  tree_utf8 (value w a) h =
+      both_utf8 (reserved_text (macro_word w)) _ (used (macro_word w)).utf8
+      (both_utf8 (codes "@") (text_of a) (plain (codes "@") refl) (tree_utf8 a h))
   tree_utf8 (name x) h = (identifier_word x h).utf8
   tree_utf8 (apply x xs) h =
       both_utf8 x _ (identifier_word x h.0).utf8
-      (both_utf8 (codes "(") _ (plain (codes "(") refl) (both_utf8 (joined (codes ",") (texts_of xs)) (codes ")") (joined_utf8 (codes ",") (texts_of xs) (plain (codes ",") refl) (trees_utf8 xs h.1)) (plain (codes ")") refl)))
+      (both_utf8 (codes "(") _ (plain (codes "(") refl)
+      (both_utf8 (joined (codes ",") (texts_of xs)) (codes ")")
+      (joined_utf8 (codes ",") (texts_of xs) (plain (codes ",") refl) (trees_utf8 xs h.1))
+      (plain (codes ")") refl)))
 
   trees_utf8 : (xs : FormulaTrees) → AreNamed xs → AreUtf8 (texts_of xs)
   trees_utf8 none h = tt
@@ -138,11 +166,16 @@ group_stopless g = neither (names_spelled g.0) _ (names_stopless g.0) (refl, (re
 
 more_groups_stopless : (gs : List Group) → HasNoStop (more_groups_spelled gs)
 more_groups_stopless [] = tt
-more_groups_stopless (g ∷ gs) = (refl, neither (group_spelled g) (more_groups_spelled gs) (group_stopless g) (more_groups_stopless gs))
+more_groups_stopless (g ∷ gs) = (
+  refl,
+  neither (group_spelled g) (more_groups_spelled gs) (group_stopless g)
+      (more_groups_stopless gs),
+)
 
 groups_stopless : (gs : List Group) → HasNoStop (groups_spelled gs)
 groups_stopless [] = tt
-groups_stopless (g ∷ gs) = neither (group_spelled g) (more_groups_spelled gs) (group_stopless g) (more_groups_stopless gs)
+groups_stopless (g ∷ gs) =
+    neither (group_spelled g) (more_groups_spelled gs) (group_stopless g) (more_groups_stopless gs)
 
 operator_stopless : (o : Binary) → is_dot (mark (binary_mark o)) ≡ false
 operator_stopless Implies = refl
@@ -155,27 +188,62 @@ operator_stopless Less = refl
 
 mutual
   tree_stopless : (f : FormulaTree) → HasNoStop (spelled f)
-  tree_stopless (quantified q gs a) = (refl, (refl, neither (groups_spelled gs) _ (groups_stopless gs) (refl, (refl, tree_stopless a))))
-  tree_stopless (binary o a b) = neither (spelled a) _ (tree_stopless a) (operator_stopless o, tree_stopless b)
+  tree_stopless (quantified q gs a) = (
+    refl,
+    (
+      refl,
+      neither (groups_spelled gs) _ (groups_stopless gs)
+          (refl, (refl, tree_stopless a)),
+    ),
+  )
+  tree_stopless (binary o a b) =
+      neither (spelled a) _ (tree_stopless a) (operator_stopless o, tree_stopless b)
   tree_stopless (group a) = (refl, neither (spelled a) _ (tree_stopless a) (refl, tt))
-  tree_stopless (pair a b) = (refl, neither (spelled a) _ (tree_stopless a) (refl, neither (spelled b) _ (tree_stopless b) (refl, tt)))
+  tree_stopless (pair a b) = (
+    refl,
+    neither (spelled a) _ (tree_stopless a)
+        (refl, neither (spelled b) _ (tree_stopless b) (refl, tt)),
+  )
   tree_stopless (constant c) = (refl, tt)
-  tree_stopless (conditional a b c) = (refl, neither (spelled a) _ (tree_stopless a) (refl, neither (spelled b) _ (tree_stopless b) (refl, tree_stopless c)))
-  tree_stopless (find ns a b c) =
-      (refl, neither (names_spelled ns) _ (names_stopless ns) (refl, (refl, neither (spelled a) _ (tree_stopless a) (refl, neither (spelled b) _ (tree_stopless b) (refl, tree_stopless c)))))
-  tree_stopless (diff a b) = (refl, (refl, neither (spelled a) _ (tree_stopless a) (refl, neither (spelled b) _ (tree_stopless b) (refl, tt))))
+  tree_stopless (conditional a b c) = (
+    refl,
+    neither (spelled a) _ (tree_stopless a)
+        (refl, neither (spelled b) _ (tree_stopless b) (refl, tree_stopless c)),
+  )
+  tree_stopless (find ns a b c) = (
+    refl,
+    neither (names_spelled ns) _ (names_stopless ns) (
+      refl,
+      (
+        refl,
+        neither (spelled a) _ (tree_stopless a)
+            (refl, neither (spelled b) _ (tree_stopless b) (refl, tree_stopless c)),
+      ),
+    ),
+  )
+  tree_stopless (diff a b) = (
+    refl,
+    (
+      refl,
+      neither (spelled a) _ (tree_stopless a)
+          (refl, neither (spelled b) _ (tree_stopless b) (refl, tt)),
+    ),
+  )
   tree_stopless (unary u a) = (refl, (refl, neither (spelled a) _ (tree_stopless a) (refl, tt)))
   tree_stopless (value w a) = (refl, (refl, tree_stopless a))
   tree_stopless (name x) = (refl, tt)
-  tree_stopless (apply x xs) = (refl, (refl, neither (list_spelled xs) _ (list_stopless xs) (refl, tt)))
+  tree_stopless (apply x xs) =
+      (refl, (refl, neither (list_spelled xs) _ (list_stopless xs) (refl, tt)))
 
   list_stopless : (xs : FormulaTrees) → HasNoStop (list_spelled xs)
   list_stopless none = tt
-  list_stopless (more a xs) = neither (spelled a) (more_spelled xs) (tree_stopless a) (more_stopless xs)
+  list_stopless (more a xs) =
+      neither (spelled a) (more_spelled xs) (tree_stopless a) (more_stopless xs)
 
   more_stopless : (xs : FormulaTrees) → HasNoStop (more_spelled xs)
   more_stopless none = tt
-  more_stopless (more a xs) = (refl, neither (spelled a) (more_spelled xs) (tree_stopless a) (more_stopless xs))
+  more_stopless (more a xs) =
+      (refl, neither (spelled a) (more_spelled xs) (tree_stopless a) (more_stopless xs))
 
 -- ---- the sentence
 
@@ -192,36 +260,62 @@ pub record IsSentence (found : Result (List Line) LexFault) (ss : List Sign) : T
   pub found_is : found ≡ Ok (line ∷ [])
   pub signs_are : map sign_at line.tokens ≡ ss
 
-one_sentence : (source : List ℕ) (since : List Lexeme) (ss : List Sign) (ts : List Lexeme) → HasNoStop ss → map sign_at ts ≡ ss ++ mark m.Dot ∷ [] → IsSentence (cut source since ts) (map sign_at since ++ ss)
+one_sentence : (source : List ℕ) (since : List Lexeme) (ss : List Sign) (ts : List Lexeme)
+    → HasNoStop ss → map sign_at ts ≡ ss ++ mark m.Dot ∷ []
+    → IsSentence (cut source since ts) (map sign_at since ++ ss)
 one_sentence source since [] [] h e = let never : ⊥ = cc in absurd never
 one_sentence source since (s ∷ ss) [] h e = let never : ⊥ = cc in absurd never
 one_sentence source since [] (t ∷ u ∷ us) h e = let never : ⊥ = cc in absurd never
 one_sentence source since [] (t ∷ []) h e =
     let dot : sign_at t ≡ mark m.Dot = cc in
     let stop : is_stop t.kind ≡ true = stop_is t.kind t.text ∙ ap is_dot dot in
-    record { line = sentence source since t; found_is = ap (λ b. cond b (prepend (sentence source since t) (cut source [] [])) (cut source (since ++ t ∷ []) [])) stop; signs_are = sym (append-nil (map sign_at since)) }
+    record {
+      line = sentence source since t;
+      found_is = ap
+          (λ b. cond b (prepend (sentence source since t) (cut source [] []))
+          (cut source (since ++ t ∷ []) [])) stop;
+      signs_are = sym (append-nil (map sign_at since));
+    }
 one_sentence source since (s ∷ ss) (t ∷ ts) h e =
     let first : sign_at t ≡ s = cc in
     let rest : map sign_at ts ≡ ss ++ mark m.Dot ∷ [] = cc in
     let stop : is_stop t.kind ≡ false = stop_is t.kind t.text ∙ (ap is_dot first ∙ h.0) in
     let inner = one_sentence source (since ++ t ∷ []) ss ts h.1 rest in
     let signs : map sign_at (since ++ t ∷ []) ++ ss ≡ map sign_at since ++ s ∷ ss =
-    ap (λ x. x ++ ss) (map-append sign_at since (t ∷ [])) ∙ (append_assoc (map sign_at since) (sign_at t ∷ []) ss ∙ ap (λ x. map sign_at since ++ x ∷ ss) first) in
+    ap (λ x. x ++ ss) (map-append sign_at since (t ∷ []))
+    ∙ (append_assoc (map sign_at since) (sign_at t ∷ []) ss
+    ∙ ap (λ x. map sign_at since ++ x ∷ ss) first) in
     record {
       line = inner.line;
-      found_is = ap (λ b. cond b (prepend (sentence source since t) (cut source [] ts)) (cut source (since ++ t ∷ []) ts)) stop ∙ inner.found_is;
+      found_is =
+          ap (λ b. cond b (prepend (sentence source since t) (cut source [] ts))
+          (cut source (since ++ t ∷ []) ts)) stop ∙ inner.found_is;
       signs_are = inner.signs_are ∙ signs;
     }
 
 -- the tokens that were read, cut into sentences
-cut_read : (source : List ℕ) (found : Result (List Lexeme) LexFault) (ss : List Sign) → HasNoStop ss → signs_read found ≡ Some (ss ++ mark m.Dot ∷ []) → IsSentence (cut_all source [] found) ss
-cut_read source (Ok ts) ss h e = let signs : map sign_at ts ≡ ss ++ mark m.Dot ∷ [] = cc in one_sentence source [] ss ts h signs
+cut_read : (source : List ℕ) (found : Result (List Lexeme) LexFault) (ss : List Sign) → HasNoStop ss
+    → signs_read found ≡ Some (ss ++ mark m.Dot ∷ []) → IsSentence (cut_all source [] found) ss
+cut_read source (Ok ts) ss h e = let signs : map sign_at ts ≡ ss ++ mark m.Dot ∷ [] =
+    cc in one_sentence source [] ss ts h signs
 cut_read source (Err x) ss h e = let never : ⊥ = cc in absurd never
 
-pub text_sentence : (f : FormulaTree) → IsNamed f → IsSentence (sentences (text_of f ++ codes ".")) (spelled f)
+pub text_sentence : (f : FormulaTree) → IsNamed f
+    → IsSentence (sentences (text_of f ++ codes ".")) (spelled f)
 text_sentence f h =
     let source = text_of f ++ codes "." in
-    let valid : is_utf8 source ≡ true = is_utf8-from_IsUtf8 source (both_utf8 (text_of f) (codes ".") (tree_utf8 f h) (plain (codes ".") refl)) in
-    let read = tree_read f (codes ".") (mark m.Dot ∷ []) h (dot_ends []) (dot_first [] [] nothing_left) 0 in
+    let valid : is_utf8 source ≡ true =
+    is_utf8-from_IsUtf8 source
+    (both_utf8 (text_of f) (codes ".") (tree_utf8 f h) (plain (codes ".") refl)) in
+    let read =
+    tree_read f (codes ".") (mark m.Dot ∷ []) h (dot_ends [])
+    (dot_first [] [] nothing_left) 0 in
     let made = cut_read source (lexemes 0 0 source) (spelled f) (tree_stopless f) read in
-    record { line = made.line; found_is = ap (λ b. cond b (cut_all source [] (lexemes 0 0 source)) (Err (fault.NotUtf8 (utf8_valid_len source)))) valid ∙ made.found_is; signs_are = made.signs_are }
+    record {
+      line = made.line;
+      found_is = ap
+          (λ b. cond b (cut_all source [] (lexemes 0 0 source))
+          (Err (fault.NotUtf8 (utf8_valid_len source)))) valid
+          ∙ made.found_is;
+      signs_are = made.signs_are;
+    }

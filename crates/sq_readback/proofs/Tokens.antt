@@ -1,10 +1,14 @@
 -- A token at the front of a text is read as it stands, where what follows does not prolong it.
-use Rattle.std.proofs.Common.{◌≡◌, ◌≢◌, ℕ, ◌+◌, ◌<◌, Bool, true, false, ◌&&◌, ◌==◌, nat_eq, nat_lt, cond, List, [], ◌∷◌, ◌++◌, map, Option, Some, None, Result, Ok, Err, is_none, length, drop, slice_index, refl, ap, ◌∙◌, sym, arith, encode_utf8, encode_utf8_all, length-append}
+use Rattle.std.proofs.Common.{◌≡◌, ◌≢◌, ℕ, ◌+◌, ◌<◌, Bool, true, false, ◌&&◌, ◌==◌, nat_eq, nat_lt}
+use Rattle.std.proofs.Common.{cond, List, [], ◌∷◌, ◌++◌, map, Option, Some, None, Result, Ok, Err}
+use Rattle.std.proofs.Common.{is_none, length, drop, slice_index, refl, ap, ◌∙◌, sym, arith}
+use Rattle.std.proofs.Common.{encode_utf8, encode_utf8_all, length-append}
 use Rattle.std.specs.Bool.{⊤}
 use Rattle.std.specs.List.{prefix_len, list_all}
 use Rattle.std.specs.Char.{is_ascii_digit, is_ascii_alphabetic}
 use Rattle.std.specs.Str.{chars, IsUtf8, is_utf8}
-use Rattle.std.proofs.lemmas.Str.{chars-append, encodes-chars, length-encode, IsUtf8-from_is_utf8, IsUtf8-from_ascii, chars-nil}
+use Rattle.std.proofs.lemmas.Str.{chars-append, encodes-chars, length-encode, IsUtf8-from_is_utf8}
+use Rattle.std.proofs.lemmas.Str.{IsUtf8-from_ascii, chars-nil}
 use Rattle.std.proofs.lemmas.Bool.Decides.{nat_tests}
 use Rattle.std.proofs.Math.Seq.{take-append_seam}
 use Rattle.unicode_ident.specs.Ident.{is_xid_continue}
@@ -16,16 +20,20 @@ use Rattle.sq_token.specs.declared.kind.Punctuation.{Punctuation}
 use Rattle.sq_token.specs.declared.kind.Punctuation.TheVariants as m
 use Rattle.sq_token.specs.declared.kind.TokenKind.{TokenKind}
 use Rattle.sq_token.specs.declared.kind.TokenKind.TheVariants as kind
-use Rattle.sq_token.specs.Kinds.{is_start, is_name, IsIdentifier, reserved_of, reserved_text, punctuation_text}
+use Rattle.sq_token.specs.Kinds.{is_start, is_name, IsIdentifier, reserved_of, reserved_text}
+use Rattle.sq_token.specs.Kinds.{punctuation_text}
 use Rattle.sq_token.specs.Sign.{Sign, sign, word, reserved, mark}
 use Rattle.sq_token.proofs.Words.{found_by_text}
 use Rattle.sq_lex.specs.declared.fault.LexFault.{LexFault}
 use Rattle.sq_lex.specs.declared.piece.Piece.TheVariants.{Spacing, Token}
 use Rattle.sq_lex.specs.Pieces as pieces
-use Rattle.sq_lex.specs.Pieces.{is_blank, opens, comment_len, commented, continued, name_len, word_kind, digits, symbol_at, symbol, piece}
-use Rattle.sq_lex.specs.Lex.{Lexeme, lexeme, lexemes, prepend}
-use Rattle.sq_lex.proofs.Names.{split_and}
-use Rattle.sq_lex.proofs.Fits.{ascii}
+use Rattle.sq_lex.specs.Characters.{is_blank, opens}
+use Rattle.sq_lex.specs.Pieces.{comment_len, commented, continued, name_len, word_kind, digits}
+use Rattle.sq_lex.specs.Pieces.{symbol_at, symbol, piece}
+use Rattle.sq_lex.specs.Lexemes.{Lexeme}
+use Rattle.sq_lex.specs.Lex.{lexeme, lexemes, prepend}
+use Rattle.std.proofs.lemmas.Bool.{and_parts}
+use Rattle.sq_lex.proofs.Symbols.{ascii}
 use Rattle.sq_lex.proofs.Steps.{at_token}
 use Rattle.sq_readback.specs.Reads.{sign_at, signs_read, IsRead}
 
@@ -35,17 +43,26 @@ drop_seam : (xs ys : List ℕ) → drop (length xs) (xs ++ ys) ≡ ys
 drop_seam [] ys = refl
 drop_seam (x ∷ xs) ys = drop_seam xs ys
 
-prepended : (l : Lexeme) (found : Result (List Lexeme) LexFault) (ss : List Sign) → signs_read found ≡ Some ss → signs_read (prepend l found) ≡ Some (sign_at l ∷ ss)
-prepended l (Ok ls) ss e = let same : map sign_at ls ≡ ss = cc in ap (λ x. Some (sign_at l ∷ x)) same
+prepended : (l : Lexeme) (found : Result (List Lexeme) LexFault) (ss : List Sign)
+    → signs_read found ≡ Some ss → signs_read (prepend l found) ≡ Some (sign_at l ∷ ss)
+prepended l (Ok ls) ss e = let same : map sign_at ls ≡ ss =
+    cc in ap (λ x. Some (sign_at l ∷ x)) same
 prepended l (Err f) ss e = cc
 
 -- the token of this kind and text, in front of what is read
-pub token_first : (k : TokenKind) (text rest : List ℕ) (ss : List Sign) → 0 < length text → piece (text ++ rest) ≡ Token k (length text) → IsRead rest ss → IsRead (text ++ rest) (sign k text ∷ ss)
+pub token_first : (k : TokenKind) (text rest : List ℕ) (ss : List Sign) → 0 < length text
+    → piece (text ++ rest) ≡ Token k (length text) → IsRead rest ss
+    → IsRead (text ++ rest) (sign k text ∷ ss)
 token_first k text rest ss some e read at =
     let all = length-append text rest in
-    let behind : signs_read (lexemes 0 (at + length text) (drop (length text) (text ++ rest))) ≡ Some ss = ap (λ x. signs_read (lexemes 0 (at + length text) x)) (drop_seam text rest) ∙ read (at + length text) in
-    ap signs_read (at_token at k (length text) (text ++ rest) (omega (arith, all)) (sym e) (omega arith) (omega (arith, all)))
-    ∙ (prepended (lexeme k (length text) at (text ++ rest)) (lexemes 0 (at + length text) (drop (length text) (text ++ rest))) ss behind
+    let behind : signs_read (lexemes 0 (at + length text) (drop (length text) (text ++ rest)))
+    ≡ Some ss = ap (λ x. signs_read (lexemes 0 (at + length text) x)) (drop_seam text rest)
+    ∙ read (at + length text) in
+    ap signs_read
+    (at_token at k (length text) (text ++ rest) (omega (arith, all)) (sym e) (omega arith)
+    (omega (arith, all)))
+    ∙ (prepended (lexeme k (length text) at (text ++ rest))
+    (lexemes 0 (at + length text) (drop (length text) (text ++ rest))) ss behind
     ∙ ap (λ x. Some (sign k x ∷ ss)) (take-append_seam text rest))
 
 pub space_first : (rest : List ℕ) (ss : List Sign) → IsRead rest ss → IsRead (32 ∷ rest) ss
@@ -55,7 +72,8 @@ pub nothing_left : IsRead [] []
 nothing_left at = refl
 
 pub moved : (xs ys : List ℕ) (ss ts : List Sign) → xs ≡ ys → ss ≡ ts → IsRead ys ts → IsRead xs ss
-moved xs ys ss ts e d read at = ap (λ x. signs_read (lexemes 0 at x)) e ∙ (read at ∙ ap Some (sym d))
+moved xs ys ss ts e d read at =
+    ap (λ x. signs_read (lexemes 0 at x)) e ∙ (read at ∙ ap Some (sym d))
 
 -- ---- first bytes
 
@@ -68,17 +86,20 @@ ascii_first b bs h = let low : nat_lt b 128 ≡ true = grind (arith, nat_tests) 
     by [] low = ([], rw low refl)
     by (d ∷ ds) low = (chars (d ∷ ds), rw low refl)
 
-no_start : (b : ℕ) → b < 128 → is_ascii_alphabetic b ≡ false → (b == 95) ≡ false → is_start b ≡ false
+no_start : (b : ℕ) → b < 128 → is_ascii_alphabetic b ≡ false → (b == 95) ≡ false
+    → is_start b ≡ false
 no_start b h a u = rw (is_xid_start-ascii b h, a, u) refl
 
 name_none : (b : ℕ) (bs : List ℕ) → b < 128 → is_start b ≡ false → name_len (chars (b ∷ bs)) ≡ 0
 name_none b bs h s = let first = ascii_first b bs h in rw (first.1, s) refl
 
 blank_no_start : (b : ℕ) → is_blank b ≡ true → is_start b ≡ false
-blank_no_start b e = no_start b (grind (arith, nat_tests)) (grind (arith, nat_tests)) (grind (arith, nat_tests))
+blank_no_start b e =
+    no_start b (grind (arith, nat_tests)) (grind (arith, nat_tests)) (grind (arith, nat_tests))
 
 open_no_start : (b c : ℕ) → opens b c ≡ true → is_start b ≡ false
-open_no_start b c e = no_start b (grind (arith, nat_tests)) (grind (arith, nat_tests)) (grind (arith, nat_tests))
+open_no_start b c e =
+    no_start b (grind (arith, nat_tests)) (grind (arith, nat_tests)) (grind (arith, nat_tests))
 
 -- nothing, or a byte that goes on with no name
 abbrev pub Ends : List ℕ → Type 0
@@ -136,12 +157,15 @@ word_some (b ∷ bs) w = omega arith
 first_starts : (b : ℕ) (bs : List ℕ) → b < 128 → is_name (chars (b ∷ bs)) ≡ true → is_start b ≡ true
 first_starts b bs h e =
     let first = ascii_first b bs h in
-    let test : (is_start b && list_all is_xid_continue first.0) ≡ true = ap is_name (sym first.1) ∙ e in
-    (split_and (is_start b) (list_all is_xid_continue first.0) test).0
+    let test : (is_start b && list_all is_xid_continue first.0) ≡ true =
+    ap is_name (sym first.1) ∙ e in
+    (and_parts (is_start b) (list_all is_xid_continue first.0) test).0
 
-other_first : (m b : ℕ) (bs : List ℕ) → m < 128 → is_ascii_alphabetic m ≡ false → (m == 95) ≡ false → is_name (chars (b ∷ bs)) ≡ true → b ≢ m
+other_first : (m b : ℕ) (bs : List ℕ) → m < 128 → is_ascii_alphabetic m ≡ false → (m == 95) ≡ false
+    → is_name (chars (b ∷ bs)) ≡ true → b ≢ m
 other_first m b bs h a u e same =
-    let starts : is_start m ≡ true = first_starts m bs h (ap (λ x. is_name (chars (x ∷ bs))) (sym same) ∙ e) in
+    let starts : is_start m ≡ true =
+    first_starts m bs h (ap (λ x. is_name (chars (x ∷ bs))) (sym same) ∙ e) in
     let none : is_start m ≡ false = no_start m h a u in
     cc
 
@@ -158,70 +182,95 @@ ends_none : (rest : List ℕ) → Ends rest → continued (chars rest) ≡ 0
 ends_none [] h = rw chars-nil refl
 ends_none (b ∷ bs) h = let first = ascii_first b bs h.0 in rw (first.1, h.1) refl
 
-continued_exact : (xs ys : List ℕ) → list_all is_xid_continue xs ≡ true → continued ys ≡ 0 → continued (xs ++ ys) ≡ length (encode_utf8_all xs)
+continued_exact : (xs ys : List ℕ) → list_all is_xid_continue xs ≡ true → continued ys ≡ 0
+    → continued (xs ++ ys) ≡ length (encode_utf8_all xs)
 continued_exact [] ys e h = h
 continued_exact (x ∷ xs) ys e h =
-    let parts = split_and (is_xid_continue x) (list_all is_xid_continue xs) e in
+    let parts = and_parts (is_xid_continue x) (list_all is_xid_continue xs) e in
     let rest = continued_exact xs ys parts.1 h in
-    rw (parts.0) (omega (arith, rest, length-append (encode_utf8 x) (encode_utf8_all xs), length-encode x))
+    rw (parts.0)
+    (omega (arith, rest, length-append (encode_utf8 x) (encode_utf8_all xs), length-encode x))
 
-name_len_exact : (xs ys : List ℕ) → is_name xs ≡ true → continued ys ≡ 0 → name_len (xs ++ ys) ≡ length (encode_utf8_all xs)
+name_len_exact : (xs ys : List ℕ) → is_name xs ≡ true → continued ys ≡ 0
+    → name_len (xs ++ ys) ≡ length (encode_utf8_all xs)
 name_len_exact [] ys e h = cc
 name_len_exact (x ∷ xs) ys e h =
-    let parts = split_and (is_start x) (list_all is_xid_continue xs) e in
+    let parts = and_parts (is_start x) (list_all is_xid_continue xs) e in
     let rest = continued_exact xs ys parts.1 h in
-    rw (parts.0) (omega (arith, rest, length-append (encode_utf8 x) (encode_utf8_all xs), length-encode x))
+    rw (parts.0)
+    (omega (arith, rest, length-append (encode_utf8 x) (encode_utf8_all xs), length-encode x))
 
 -- where a name of n bytes stands in front, it is the piece
 name_piece : (n : ℕ) (bs : List ℕ) → 0 < n → name_len (chars bs) ≡ n → piece bs ≡ pieces.word n bs
 name_piece n [] h e = let none : name_len (chars []) ≡ 0 = rw chars-nil refl in absurd (omega arith)
-name_piece n (b ∷ bs) h e = by (is_blank b) (opens b (slice_index bs 0)) (nat_lt 0 (name_len (chars (b ∷ bs)))) refl refl refl
+name_piece n (b ∷ bs) h e =
+    by (is_blank b) (opens b (slice_index bs 0))
+    (nat_lt 0 (name_len (chars (b ∷ bs)))) refl refl refl
   where
     none : b < 128 → is_start b ≡ false → ⊥
     none low s = let z = name_none b bs low s in absurd (omega arith)
 
-    by : (t o s : Bool) → is_blank b ≡ t → opens b (slice_index bs 0) ≡ o → nat_lt 0 (name_len (chars (b ∷ bs))) ≡ s
-        → cond t (Spacing 1) (cond o (commented (comment_len 0 2 (drop 1 bs))) (cond s (pieces.word (name_len (chars (b ∷ bs))) (b ∷ bs)) (cond (is_ascii_digit b) (digits (prefix_len is_ascii_digit (b ∷ bs)) (b ∷ bs)) (symbol (symbol_at (b ∷ bs)))))) ≡ pieces.word n (b ∷ bs)
+    by : (t o s : Bool) → is_blank b ≡ t → opens b (slice_index bs 0) ≡ o
+        → nat_lt 0 (name_len (chars (b ∷ bs))) ≡ s
+        → cond t (Spacing 1)
+        (cond o (commented (comment_len 0 2 (drop 1 bs)))
+        (cond s (pieces.word (name_len (chars (b ∷ bs))) (b ∷ bs))
+        (cond (is_ascii_digit b) (digits (prefix_len is_ascii_digit (b ∷ bs)) (b ∷ bs))
+        (symbol (symbol_at (b ∷ bs)))))) ≡ pieces.word n (b ∷ bs)
     by true o s f g k = absurd (none (grind (arith, nat_tests)) (blank_no_start b f))
-    by false true s f g k = absurd (none (grind (arith, nat_tests)) (open_no_start b (slice_index bs 0) g))
+    by false true s f g k =
+        absurd (none (grind (arith, nat_tests)) (open_no_start b (slice_index bs 0) g))
     by false false true f g k = ap (λ x. pieces.word x (b ∷ bs)) e
     by false false false f g k = let no : ⊥ = grind (arith, nat_tests) in absurd no
 
-word_piece : (text rest : List ℕ) → IsWord text → Ends rest → piece (text ++ rest) ≡ Token (word_kind (reserved_of text)) (length text)
+word_piece : (text rest : List ℕ) → IsWord text → Ends rest
+    → piece (text ++ rest) ≡ Token (word_kind (reserved_of text)) (length text)
 word_piece text rest w h =
-    let len : length (encode_utf8_all (chars text)) ≡ length text = ap length (encodes-chars text w.utf8) in
-    let long : name_len (chars (text ++ rest)) ≡ length text = ap name_len (chars-append text rest w.utf8) ∙ (name_len_exact (chars text) (chars rest) w.name (ends_none rest h) ∙ len) in
-    name_piece (length text) (text ++ rest) (word_some text w) long ∙ ap (λ x. Token (word_kind (reserved_of x)) (length text)) (take-append_seam text rest)
+    let len : length (encode_utf8_all (chars text)) ≡ length text =
+    ap length (encodes-chars text w.utf8) in
+    let long : name_len (chars (text ++ rest)) ≡ length text =
+    ap name_len (chars-append text rest w.utf8)
+    ∙ (name_len_exact (chars text) (chars rest) w.name (ends_none rest h) ∙ len) in
+    name_piece (length text) (text ++ rest) (word_some text w) long
+    ∙ ap (λ x. Token (word_kind (reserved_of x)) (length text)) (take-append_seam text rest)
 
 pub identifier_word : (text : List ℕ) → IsIdentifier text → IsWord text
 identifier_word text e =
-    let parts = split_and (is_utf8 text && is_name (chars text)) (is_none (reserved_of text)) e in
-    let front = split_and (is_utf8 text) (is_name (chars text)) parts.0 in
+    let parts = and_parts (is_utf8 text && is_name (chars text)) (is_none (reserved_of text)) e in
+    let front = and_parts (is_utf8 text) (is_name (chars text)) parts.0 in
     record { utf8 = IsUtf8-from_is_utf8 text front.0; name = front.1 }
 
-identifier_kind : (text : List ℕ) → IsIdentifier text → word_kind (reserved_of text) ≡ kind.Identifier
-identifier_kind text e = by (reserved_of text) (split_and (is_utf8 text && is_name (chars text)) (is_none (reserved_of text)) e).1
+identifier_kind : (text : List ℕ) → IsIdentifier text
+    → word_kind (reserved_of text) ≡ kind.Identifier
+identifier_kind text e =
+    by (reserved_of text)
+    (and_parts (is_utf8 text && is_name (chars text)) (is_none (reserved_of text)) e).1
   where
     by : (o : Option Reserved) → is_none o ≡ true → word_kind o ≡ kind.Identifier
     by None h = refl
     by (Some w) h = cc
 
-pub word_first : (text rest : List ℕ) (ss : List Sign) → IsIdentifier text → Ends rest → IsRead rest ss → IsRead (text ++ rest) (word text ∷ ss)
+pub word_first : (text rest : List ℕ) (ss : List Sign) → IsIdentifier text → Ends rest
+    → IsRead rest ss → IsRead (text ++ rest) (word text ∷ ss)
 word_first text rest ss e h read =
     let w = identifier_word text e in
-    token_first kind.Identifier text rest ss (word_some text w) (word_piece text rest w h ∙ ap (λ k. Token k (length text)) (identifier_kind text e)) read
+    token_first kind.Identifier text rest ss (word_some text w)
+    (word_piece text rest w h ∙ ap (λ k. Token k (length text)) (identifier_kind text e)) read
 
 -- the reserved words that stand in formulas
 abbrev pub IsUsed : Reserved → Type 0
 IsUsed w = IsWord (reserved_text w)
 
-ascii_word : (text : List ℕ) → list_all (λ b. nat_lt b 128) text ≡ true → is_name (chars text) ≡ true → IsWord text
+ascii_word : (text : List ℕ) → list_all (λ b. nat_lt b 128) text ≡ true
+    → is_name (chars text) ≡ true → IsWord text
 ascii_word text a e = record { utf8 = IsUtf8-from_ascii text (ascii text a); name = e }
 
-pub reserved_first : (w : Reserved) (rest : List ℕ) (ss : List Sign) → IsUsed w → Ends rest → IsRead rest ss → IsRead (reserved_text w ++ rest) (reserved w ∷ ss)
+pub reserved_first : (w : Reserved) (rest : List ℕ) (ss : List Sign) → IsUsed w → Ends rest
+    → IsRead rest ss → IsRead (reserved_text w ++ rest) (reserved w ∷ ss)
 reserved_first w rest ss is h read =
     token_first (kind.Reserved w) (reserved_text w) rest ss (word_some (reserved_text w) is)
-    (word_piece (reserved_text w) rest is h ∙ ap (λ o. Token (word_kind o) (length (reserved_text w))) (found_by_text w)) read
+    (word_piece (reserved_text w) rest is h
+    ∙ ap (λ o. Token (word_kind o) (length (reserved_text w))) (found_by_text w)) read
 
 pub used : (w : Reserved) → IsUsed w
 unfolding chars unicode_ident
@@ -280,46 +329,69 @@ used r.From = ascii_word (reserved_text r.From) refl refl
 
 -- a byte that begins no blank, name or number
 abbrev IsMark : ℕ → Type 0
-IsMark b = (b < 128) × (is_blank b ≡ false) × (is_ascii_alphabetic b ≡ false) × ((b == 95) ≡ false) × (is_ascii_digit b ≡ false)
+IsMark b = (b < 128) × (is_blank b ≡ false) × (is_ascii_alphabetic b ≡ false) × ((b == 95) ≡ false)
+    × (is_ascii_digit b ≡ false)
 
-mark_piece : (p : Punctuation) (b : ℕ) (bs : List ℕ) → IsMark b → opens b (slice_index bs 0) ≡ false → symbol_at (b ∷ bs) ≡ Some p → piece (b ∷ bs) ≡ Token (kind.Punctuation p) (length (punctuation_text p))
-mark_piece p b bs is o e = rw (is.1, o, name_none b bs is.0 (no_start b is.0 is.2 is.3), is.4, e) refl
+mark_piece : (p : Punctuation) (b : ℕ) (bs : List ℕ) → IsMark b → opens b (slice_index bs 0) ≡ false
+    → symbol_at (b ∷ bs) ≡ Some p
+    → piece (b ∷ bs) ≡ Token (kind.Punctuation p) (length (punctuation_text p))
+mark_piece p b bs is o e =
+    rw (is.1, o, name_none b bs is.0 (no_start b is.0 is.2 is.3), is.4, e) refl
 
-mark_first : (p : Punctuation) (b : ℕ) (bs rest : List ℕ) (ss : List Sign) → punctuation_text p ≡ b ∷ bs → IsMark b → opens b (slice_index (bs ++ rest) 0) ≡ false → symbol_at (b ∷ bs ++ rest) ≡ Some p → IsRead rest ss
+mark_first : (p : Punctuation) (b : ℕ) (bs rest : List ℕ) (ss : List Sign)
+    → punctuation_text p ≡ b ∷ bs → IsMark b → opens b (slice_index (bs ++ rest) 0) ≡ false
+    → symbol_at (b ∷ bs ++ rest) ≡ Some p → IsRead rest ss
     → IsRead (b ∷ bs ++ rest) (mark p ∷ ss)
 mark_first p b bs rest ss text is o e read =
-    token_first (kind.Punctuation p) (b ∷ bs) rest ss (omega arith) (mark_piece p b (bs ++ rest) is o e ∙ ap (λ x. Token (kind.Punctuation p) (length x)) text) read
+    token_first (kind.Punctuation p) (b ∷ bs) rest ss (omega arith)
+    (mark_piece p b (bs ++ rest) is o e
+    ∙ ap (λ x. Token (kind.Punctuation p) (length x)) text) read
 
-pub comma_first : (rest : List ℕ) (ss : List Sign) → IsRead rest ss → IsRead (44 ∷ rest) (mark m.Comma ∷ ss)
+pub comma_first : (rest : List ℕ) (ss : List Sign) → IsRead rest ss
+    → IsRead (44 ∷ rest) (mark m.Comma ∷ ss)
 unfolding symbol_at
-comma_first rest ss read = mark_first m.Comma 44 [] rest ss refl (omega arith, refl, refl, refl, refl) refl refl read
+comma_first rest ss read =
+    mark_first m.Comma 44 [] rest ss refl (omega arith, refl, refl, refl, refl) refl refl read
 
-pub colon_first : (rest : List ℕ) (ss : List Sign) → IsRead rest ss → IsRead (58 ∷ rest) (mark m.Colon ∷ ss)
+pub colon_first : (rest : List ℕ) (ss : List Sign) → IsRead rest ss
+    → IsRead (58 ∷ rest) (mark m.Colon ∷ ss)
 unfolding symbol_at
-colon_first rest ss read = mark_first m.Colon 58 [] rest ss refl (omega arith, refl, refl, refl, refl) refl refl read
+colon_first rest ss read =
+    mark_first m.Colon 58 [] rest ss refl (omega arith, refl, refl, refl, refl) refl refl read
 
-pub at_first : (rest : List ℕ) (ss : List Sign) → IsRead rest ss → IsRead (64 ∷ rest) (mark m.At ∷ ss)
+pub at_first : (rest : List ℕ) (ss : List Sign) → IsRead rest ss
+    → IsRead (64 ∷ rest) (mark m.At ∷ ss)
 unfolding symbol_at
-at_first rest ss read = mark_first m.At 64 [] rest ss refl (omega arith, refl, refl, refl, refl) refl refl read
+at_first rest ss read =
+    mark_first m.At 64 [] rest ss refl (omega arith, refl, refl, refl, refl) refl refl read
 
-pub close_first : (rest : List ℕ) (ss : List Sign) → IsRead rest ss → IsRead (41 ∷ rest) (mark m.CloseParenthesis ∷ ss)
+pub close_first : (rest : List ℕ) (ss : List Sign) → IsRead rest ss
+    → IsRead (41 ∷ rest) (mark m.CloseParenthesis ∷ ss)
 unfolding symbol_at
-close_first rest ss read = mark_first m.CloseParenthesis 41 [] rest ss refl (omega arith, refl, refl, refl, refl) refl refl read
+close_first rest ss read =
+    mark_first m.CloseParenthesis 41 [] rest ss refl
+    (omega arith, refl, refl, refl, refl) refl refl read
 
-pub dot_first : (rest : List ℕ) (ss : List Sign) → IsRead rest ss → IsRead (46 ∷ rest) (mark m.Dot ∷ ss)
+pub dot_first : (rest : List ℕ) (ss : List Sign) → IsRead rest ss
+    → IsRead (46 ∷ rest) (mark m.Dot ∷ ss)
 unfolding symbol_at
-dot_first rest ss read = mark_first m.Dot 46 [] rest ss refl (omega arith, refl, refl, refl, refl) refl refl read
+dot_first rest ss read =
+    mark_first m.Dot 46 [] rest ss refl (omega arith, refl, refl, refl, refl) refl refl read
 
-pub greater_first : (rest : List ℕ) (ss : List Sign) → IsRead rest ss → IsRead (62 ∷ rest) (mark m.Greater ∷ ss)
+pub greater_first : (rest : List ℕ) (ss : List Sign) → IsRead rest ss
+    → IsRead (62 ∷ rest) (mark m.Greater ∷ ss)
 unfolding symbol_at
-greater_first rest ss read = mark_first m.Greater 62 [] rest ss refl (omega arith, refl, refl, refl, refl) refl refl read
+greater_first rest ss read =
+    mark_first m.Greater 62 [] rest ss refl (omega arith, refl, refl, refl, refl) refl refl read
 
-pub open_first : (rest : List ℕ) (ss : List Sign) → Begins rest → IsRead rest ss → IsRead (40 ∷ rest) (mark m.OpenParenthesis ∷ ss)
+pub open_first : (rest : List ℕ) (ss : List Sign) → Begins rest → IsRead rest ss
+    → IsRead (40 ∷ rest) (mark m.OpenParenthesis ∷ ss)
 unfolding symbol_at
 open_first [] ss h read = absurd h
 open_first (b ∷ bs) ss h read =
     let no_star : (b == 42) ≡ false = let ne = h.0 in grind (arith, nat_tests) in
-    mark_first m.OpenParenthesis 40 [] (b ∷ bs) ss refl (omega arith, refl, refl, refl, refl) no_star refl read
+    mark_first m.OpenParenthesis 40 [] (b ∷ bs) ss refl
+    (omega arith, refl, refl, refl, refl) no_star refl read
 
 less_at : (b : ℕ) (bs : List ℕ) → Begins (b ∷ bs) → symbol_at (60 ∷ b ∷ bs) ≡ Some m.Less
 unfolding symbol_at
@@ -329,36 +401,58 @@ less_at b bs h =
     let d : nat_eq 45 b ≡ false = let ne = h.1 in grind (arith, nat_tests) in
     rw (a, c, d) refl
 
-pub less_first : (rest : List ℕ) (ss : List Sign) → Begins rest → IsRead rest ss → IsRead (60 ∷ rest) (mark m.Less ∷ ss)
+pub less_first : (rest : List ℕ) (ss : List Sign) → Begins rest → IsRead rest ss
+    → IsRead (60 ∷ rest) (mark m.Less ∷ ss)
 less_first [] ss h read = absurd h
-less_first (b ∷ bs) ss h read = mark_first m.Less 60 [] (b ∷ bs) ss refl (omega arith, refl, refl, refl, refl) refl (less_at b bs h) read
+less_first (b ∷ bs) ss h read =
+    mark_first m.Less 60 [] (b ∷ bs) ss refl (omega arith, refl, refl, refl, refl) refl
+    (less_at b bs h) read
 
 -- operators, with a space on each side
-pub and_first : (rest : List ℕ) (ss : List Sign) → IsRead rest ss → IsRead (38 ∷ 38 ∷ rest) (mark m.And ∷ ss)
+pub and_first : (rest : List ℕ) (ss : List Sign) → IsRead rest ss
+    → IsRead (38 ∷ 38 ∷ rest) (mark m.And ∷ ss)
 unfolding symbol_at
-and_first rest ss read = mark_first m.And 38 (38 ∷ []) rest ss refl (omega arith, refl, refl, refl, refl) refl refl read
+and_first rest ss read =
+    mark_first m.And 38 (38 ∷ []) rest ss refl (omega arith, refl, refl, refl, refl) refl refl read
 
-pub or_first : (rest : List ℕ) (ss : List Sign) → IsRead rest ss → IsRead (124 ∷ 124 ∷ rest) (mark m.Or ∷ ss)
+pub or_first : (rest : List ℕ) (ss : List Sign) → IsRead rest ss
+    → IsRead (124 ∷ 124 ∷ rest) (mark m.Or ∷ ss)
 unfolding symbol_at
-or_first rest ss read = mark_first m.Or 124 (124 ∷ []) rest ss refl (omega arith, refl, refl, refl, refl) refl refl read
+or_first rest ss read =
+    mark_first m.Or 124 (124 ∷ []) rest ss refl (omega arith, refl, refl, refl, refl) refl refl read
 
-pub implies_first : (rest : List ℕ) (ss : List Sign) → IsRead rest ss → IsRead (61 ∷ 62 ∷ rest) (mark m.Implies ∷ ss)
+pub implies_first : (rest : List ℕ) (ss : List Sign) → IsRead rest ss
+    → IsRead (61 ∷ 62 ∷ rest) (mark m.Implies ∷ ss)
 unfolding symbol_at
-implies_first rest ss read = mark_first m.Implies 61 (62 ∷ []) rest ss refl (omega arith, refl, refl, refl, refl) refl refl read
+implies_first rest ss read =
+    mark_first m.Implies 61 (62 ∷ []) rest ss refl
+    (omega arith, refl, refl, refl, refl) refl refl read
 
-pub differs_first : (rest : List ℕ) (ss : List Sign) → IsRead rest ss → IsRead (60 ∷ 62 ∷ rest) (mark m.Differs ∷ ss)
+pub differs_first : (rest : List ℕ) (ss : List Sign) → IsRead rest ss
+    → IsRead (60 ∷ 62 ∷ rest) (mark m.Differs ∷ ss)
 unfolding symbol_at
-differs_first rest ss read = mark_first m.Differs 60 (62 ∷ []) rest ss refl (omega arith, refl, refl, refl, refl) refl refl read
+differs_first rest ss read =
+    mark_first m.Differs 60 (62 ∷ []) rest ss refl
+    (omega arith, refl, refl, refl, refl) refl refl read
 
-pub at_most_first : (rest : List ℕ) (ss : List Sign) → IsRead rest ss → IsRead (60 ∷ 61 ∷ rest) (mark m.AtMost ∷ ss)
+pub at_most_first : (rest : List ℕ) (ss : List Sign) → IsRead rest ss
+    → IsRead (60 ∷ 61 ∷ rest) (mark m.AtMost ∷ ss)
 unfolding symbol_at
-at_most_first rest ss read = mark_first m.AtMost 60 (61 ∷ []) rest ss refl (omega arith, refl, refl, refl, refl) refl refl read
+at_most_first rest ss read =
+    mark_first m.AtMost 60 (61 ∷ []) rest ss refl
+    (omega arith, refl, refl, refl, refl) refl refl read
 
-pub equals_first : (rest : List ℕ) (ss : List Sign) → IsRead rest ss → IsRead (61 ∷ 32 ∷ rest) (mark m.Equals ∷ ss)
+pub equals_first : (rest : List ℕ) (ss : List Sign) → IsRead rest ss
+    → IsRead (61 ∷ 32 ∷ rest) (mark m.Equals ∷ ss)
 unfolding symbol_at
-equals_first rest ss read = mark_first m.Equals 61 [] (32 ∷ rest) ss refl (omega arith, refl, refl, refl, refl) refl refl (space_first rest ss read)
+equals_first rest ss read =
+    mark_first m.Equals 61 [] (32 ∷ rest) ss refl (omega arith, refl, refl, refl, refl) refl refl
+    (space_first rest ss read)
 
 -- `<` with a space behind it
-pub below_first : (rest : List ℕ) (ss : List Sign) → IsRead rest ss → IsRead (60 ∷ 32 ∷ rest) (mark m.Less ∷ ss)
+pub below_first : (rest : List ℕ) (ss : List Sign) → IsRead rest ss
+    → IsRead (60 ∷ 32 ∷ rest) (mark m.Less ∷ ss)
 unfolding symbol_at
-below_first rest ss read = mark_first m.Less 60 [] (32 ∷ rest) ss refl (omega arith, refl, refl, refl, refl) refl refl (space_first rest ss read)
+below_first rest ss read =
+    mark_first m.Less 60 [] (32 ∷ rest) ss refl (omega arith, refl, refl, refl, refl) refl refl
+    (space_first rest ss read)

@@ -3,7 +3,8 @@ use Rattle.std.specs.Prelude.{◌≡◌, ◌≤◌, ℕ, List, [], ◌∷◌, �
 use Rattle.sq_base.specs.declared.sort.Sort.{Sort}
 use Rattle.sq_token.specs.declared.token.Sentence.{Sentence}
 use Rattle.sq_token.specs.Sign.{Sign, signs}
-use Rattle.sq_lex.specs.Lex.{Line, sentences}
+use Rattle.sq_lex.specs.Lexemes.{Line}
+use Rattle.sq_lex.specs.Lex.{sentences}
 use Rattle.sq_ast.specs.Tree.{FormulaTree}
 use Rattle.sq_ast.specs.Deep.{height}
 use Rattle.sq_parse_term.specs.Answers.{IsFormula, HasNone, IsTooDeep}
@@ -21,7 +22,8 @@ pub record IsWithinLimits (c : Context) (t : TermTree) : Type 0 where
   pub nodes : size t ≤ 65536
   pub depth : height (term_syntax (names_of c) [] t) ≤ 256
 
--- The parser of formulas may answer this tree for the tokens, with none of them left, and it may answer nothing else: no other
+-- The parser of formulas may answer this tree for the tokens, with none of them left, and it may
+-- answer nothing else: no other
 -- tree, and neither that there is none nor that it is too deep.
 pub record IsOnlyFormula (ts : List Sign) (t : FormulaTree) : Type 0 where
   pub formula : IsFormula ts t []
@@ -29,7 +31,8 @@ pub record IsOnlyFormula (ts : List Sign) (t : FormulaTree) : Type 0 where
   pub some : HasNone ts → ⊥
   pub shallow : IsTooDeep ts → ⊥
 
--- With a stop behind it, the text is one sentence. Its tokens can be parsed as one formula only, and that resolves to the term.
+-- With a stop behind it, the text is one sentence. Its tokens can be parsed as one formula only,
+-- and that resolves to the term.
 pub record ComesBack (c : Context) (s : Sort) (text : List ℕ) (t : TermTree) : Type 0 where
   pub sentence : Line
   pub lexed : sentences (text ++ codes ".") ≡ Ok (sentence ∷ [])

@@ -1,13 +1,19 @@
 -- Scopes in which the printed form of a term is read back.
-use Rattle.std.specs.Prelude.{◌≡◌, ◌+◌, ◌≤◌, ◌<◌, ◌^◌, ℕ, suc, ⊤, List, [], ◌++◌, length, map, Some, None, unwrap_or, slice_get, true, false, nat_eq}
+use Rattle.std.specs.Prelude.{◌≡◌, ◌+◌, ◌≤◌, ◌<◌, ◌^◌, ℕ, suc, ⊤, List, [], ◌++◌, length, map, Some}
+use Rattle.std.specs.Prelude.{None, unwrap_or, slice_get, true, false, nat_eq}
 use Rattle.sq_base.specs.declared.sort.Sort.{Sort}
 use Rattle.sq_sym.specs.declared.symbol.Symbol.{Symbol}
 use Rattle.sq_sym.specs.declared.symbol.Symbol.TheVariants as symbol
 use Rattle.sq_sym.specs.Declarations.{found, NamesDiffer}
 use Rattle.sq_term.specs.declared.action.Action.{Action}
-use Rattle.sq_term.specs.Syntax.{TermTree, fun, diff, all, some, find, TermTrees, nil, cons}
-use Rattle.sq_system.specs.Functions.{builtin_functions, is_value_sort}
-use Rattle.sq_system.specs.Typing.{Signature, has_sort}
+use Rattle.sq_term.specs.declared.builtin.Builtin.{Builtin}
+use Rattle.sq_term.specs.Builtins.{builtin_kind}
+use Rattle.sq_term.specs.Symbols as kind
+use Rattle.sq_term.specs.Symbols.{Kind, declared, declared_number, function_number}
+use Rattle.sq_term.specs.Syntax.{TsTree, pred, action, TermTree, name, fun, macro, schema, diff}
+use Rattle.sq_term.specs.Syntax.{le, ts_eq, idx_eq, happens, all, some, find, TermTrees, nil, cons}
+use Rattle.sq_typing.specs.Functions.{builtin_functions, is_value_sort}
+use Rattle.sq_typing.specs.Typing.{Signature, has_sort}
 use Rattle.sq_print.specs.Names.{Names, names_count}
 use Rattle.sq_resolve.specs.Scopes.{Context}
 use Rattle.sq_token.specs.Sign.{Sign}
@@ -19,7 +25,8 @@ use Rattle.sq_readback.specs.Reads.{IsRead, AreIdentifiers}
 
 -- the names that the scope's terms are printed with
 abbrev pub names_of : Context → Names
-names_of c = record { schemas = c.schemas; vars = map (λ v. v.0) c.vars; system = c.system; table = c.table }
+names_of c =
+    record { schemas = c.schemas; vars = map (λ v. v.0) c.vars; system = c.system; table = c.table }
 
 -- the actions of the scope's system
 abbrev pub own_actions : Context → List Action
@@ -27,7 +34,15 @@ own_actions c = unwrap_or (slice_get c.systems c.system) []
 
 -- what a term of the scope may speak of
 abbrev pub signature : Context → Signature
-signature c = record { names = c.names; funs = c.funs; actions = map (λ a. a.arity) (own_actions c); schemas = length c.schemas; vars = map (λ v. v.1) c.vars }
+signature c =
+    record {
+      names = c.names;
+      funs = c.funs;
+      actions = map (λ a. a.arity)
+          (own_actions c);
+      schemas = length c.schemas;
+      vars = map (λ v. v.1) c.vars;
+    }
 
 -- the table has a declaration of the symbol
 abbrev pub Declares : List (List ℕ × Symbol) → Symbol → Type 0
@@ -37,32 +52,50 @@ Declares table s = (k : ℕ) × ((x : List ℕ) × (slice_get table k ≡ Some (
 abbrev pub own_names : Context → List (List ℕ)
 own_names c = map (λ v. v.0) c.vars ++ c.schemas
 
--- All names are identifiers, no name stands for two things, and the table declares what the environment has. The functions
--- before number 14 are the built-in ones, which are written by words and signs of their own.
+-- All names are identifiers, and no name stands for two things. The built-in functions are written
+-- by words and signs of their own.
 pub record HasPlainNames (c : Context) : Type 0 where
   pub identifiers : AreIdentifiers (own_names c)
   pub declared_identifiers : AreIdentifiers (map (λ d. d.0) c.table)
-  pub apart : (j k : ℕ) (x : List ℕ) → slice_get (own_names c) j ≡ Some x → slice_get (own_names c) k ≡ Some x → j ≡ k
-  pub no_symbols : (k : ℕ) (x : List ℕ) → slice_get (own_names c) k ≡ Some x → found x c.table ≡ None
+  pub apart : (j k : ℕ) (x : List ℕ) → slice_get (own_names c) j ≡ Some x
+      → slice_get (own_names c) k ≡ Some x → j ≡ k
+  pub no_symbols : (k : ℕ) (x : List ℕ) → slice_get (own_names c) k ≡ Some x
+      → found x c.table ≡ None
   pub declared_once : NamesDiffer c.table
-  pub names : (n : ℕ) → n < length c.names → Declares c.table (symbol.Name n)
-  pub functions : (f : ℕ) → 14 ≤ f → f < length c.funs → Declares c.table (symbol.Fun f)
-  pub builtin : (f : ℕ) → f < 14 → slice_get c.funs f ≡ slice_get builtin_functions f
-  pub actions : (a : ℕ) → a < length (own_actions c) → Declares c.table (symbol.Action c.system a)
+  pub builtin : (b : Builtin) → slice_get c.funs (function_number (builtin_kind b))
+      ≡ slice_get builtin_functions (function_number (builtin_kind b))
 
--- the attacker's function does not stand in the term
+-- The function is written: a built-in one by a word or signs of its own, but for the attacker's, and
+-- a declared one by its name in the table.
+abbrev pub HasWord : Context → Kind → Type 0
+HasWord c kind.attacker = ⊥
+HasWord c (declared k) = Declares c.table (symbol.Fun (declared_number k))
+HasWord c f = ⊤
+
+abbrev pub TimeHasWords : Context → TsTree → Type 0
+TimeHasWords c (pred t) = TimeHasWords c t
+TimeHasWords c (action a is) = Declares c.table (symbol.Action c.system a)
+TimeHasWords c _ = ⊤
+
+-- so are all functions, names and actions of the term
 abbrev mutual
-  pub HasNoAtt : TermTree → Type 0
-  HasNoAtt (fun f is ts) = (nat_eq f 13 ≡ false) × HaveNoAtt ts
-  HasNoAtt (diff a b) = HasNoAtt a × HasNoAtt b
-  HasNoAtt (all s t) = HasNoAtt t
-  HasNoAtt (some s t) = HasNoAtt t
-  HasNoAtt (find n t u v) = HasNoAtt t × HasNoAtt u × HasNoAtt v
-  HasNoAtt _ = ⊤
+  pub HasWords : Context → TermTree → Type 0
+  HasWords c (name n is) = Declares c.table (symbol.Name n)
+  HasWords c (fun f is ts) = HasWord c f × HaveWords c ts
+  HasWords c (macro m t) = TimeHasWords c t
+  HasWords c (schema k) = ⊤
+  HasWords c (diff a b) = HasWords c a × HasWords c b
+  HasWords c (le t u) = TimeHasWords c t × TimeHasWords c u
+  HasWords c (ts_eq t u) = TimeHasWords c t × TimeHasWords c u
+  HasWords c (idx_eq i j) = ⊤
+  HasWords c (happens t) = TimeHasWords c t
+  HasWords c (all s t) = HasWords c t
+  HasWords c (some s t) = HasWords c t
+  HasWords c (find n t u v) = HasWords c t × HasWords c u × HasWords c v
 
-  pub HaveNoAtt : TermTrees → Type 0
-  HaveNoAtt nil = ⊤
-  HaveNoAtt (cons t ts) = HasNoAtt t × HaveNoAtt ts
+  pub HaveWords : Context → TermTrees → Type 0
+  HaveWords c nil = ⊤
+  HaveWords c (cons t ts) = HasWords c t × HaveWords c ts
 
 -- each find in the term binds an index
 abbrev mutual
@@ -92,13 +125,13 @@ abbrev mutual
   all_binders nil = 0
   all_binders (cons t ts) = binders t + all_binders ts
 
--- What may be read back in the scope: a message or a Boolean without the attacker's function, each of whose finds binds an index,
--- with fewer than 2^64 names.
+-- What may be read back in the scope: a message or a Boolean whose symbols have words, each of whose
+-- finds binds an index, with fewer than 2^64 names.
 pub record IsReadable (c : Context) (s : Sort) (t : TermTree) : Type 0 where
   pub plain : HasPlainNames c
   pub value : is_value_sort s ≡ true
   pub sorted : has_sort (signature c) [] s t ≡ true
-  pub no_att : HasNoAtt t
+  pub words : HasWords c t
   pub finds_bind : FindsBind t
   pub few : names_count (names_of c) [] + binders t < 2 ^ 64
 

@@ -3,8 +3,11 @@ use Rattle.std.specs.Prelude.{◌≡◌, ℕ, ⊤, List, [], ◌∷◌, map, Opt
 use Rattle.sq_token.specs.Kinds.{IsIdentifier}
 use Rattle.sq_token.specs.Sign.{Sign, sign}
 use Rattle.sq_lex.specs.declared.fault.LexFault.{LexFault}
-use Rattle.sq_lex.specs.Lex.{Lexeme, lexemes}
-use Rattle.sq_ast.specs.Tree.{Group, FormulaTree, quantified, binary, group, pair, constant, conditional, find, diff, unary, value, name, apply, FormulaTrees, none, more}
+use Rattle.sq_lex.specs.Lexemes.{Lexeme}
+use Rattle.sq_lex.specs.Lex.{lexemes}
+use Rattle.sq_ast.specs.Tree.{Group, FormulaTree, quantified, binary, group, pair, constant}
+use Rattle.sq_ast.specs.Tree.{conditional, find, diff, unary, value, name, apply, FormulaTrees}
+use Rattle.sq_ast.specs.Tree.{none, more}
 
 abbrev pub sign_at : Lexeme → Sign
 sign_at l = sign l.kind l.text

@@ -1,8 +1,10 @@
 -- The syntax tree of a printed term, and the text of a syntax tree.
-use Rattle.std.specs.Prelude.{◌≢◌, ◌<◌, ℕ, ⊤, nat_eq, nat_le, List, [], ◌∷◌, ◌++◌, length, map, reverse, Option, Some, None, codes, if◌then◌else◌}
+use Rattle.std.specs.Prelude.{◌≢◌, ◌<◌, ℕ, ⊤, nat_le, List, [], ◌∷◌, ◌++◌, length, map, reverse}
+use Rattle.std.specs.Prelude.{Option, Some, None, codes, if◌then◌else◌}
 use Rattle.sq_base.specs.declared.sort.Sort.TheVariants.{Boolean}
 use Rattle.sq_token.specs.Kinds.{reserved_text, punctuation_text}
 use Rattle.sq_ast.specs.declared.formula.Quantifier.TheVariants.{Forall, Exists}
+use Rattle.sq_ast.specs.declared.formula.Binary.{Binary}
 use Rattle.sq_ast.specs.declared.formula.Binary.TheVariants as binary
 use Rattle.sq_ast.specs.declared.formula.Constant.{Constant}
 use Rattle.sq_ast.specs.declared.formula.Constant.TheVariants as constant
@@ -12,18 +14,27 @@ use Rattle.sq_ast.specs.declared.formula.MacroWord.{MacroWord}
 use Rattle.sq_ast.specs.declared.formula.MacroWord.TheVariants as macro_word
 use Rattle.sq_ast.specs.Tree.{Group, FormulaTree, FormulaTrees}
 use Rattle.sq_ast.specs.Tree as tree
-use Rattle.sq_ast.specs.Grammar.{quantifier_word, binary_mark, constant_word, unary_word, sort_word, tree_rank}
+use Rattle.sq_ast.specs.Grammar.{quantifier_word, binary_mark, constant_word, unary_word, sort_word}
+use Rattle.sq_ast.specs.Grammar.{tree_rank}
 use Rattle.sq_ast.specs.Grammar as grammar
 use Rattle.sq_term.specs.declared.term.Idx.{Idx}
 use Rattle.sq_term.specs.declared.term.Macro.{Macro}
 use Rattle.sq_term.specs.declared.term.Macro.TheVariants as macro_of
-use Rattle.sq_term.specs.Syntax.{TsTree, free, bound, init, pred, action, TermTree, name, fun, macro, schema, diff, le, ts_eq, idx_eq, happens, all, some, find, TermTrees, nil, cons}
+use Rattle.sq_term.specs.declared.layout.Layout.{Layout}
+use Rattle.sq_term.specs.declared.layout.Layout.TheVariants.{Word, Infix, Pair, Conditional}
+use Rattle.sq_term.specs.declared.layout.Level.{Level}
+use Rattle.sq_term.specs.declared.layout.Level.TheVariants as level
+use Rattle.sq_term.specs.Measure.{count_terms}
+use Rattle.sq_term.specs.Symbols as kind
+use Rattle.sq_term.specs.Symbols.{Kind}
+use Rattle.sq_term.specs.Syntax.{TsTree, free, bound, init, pred, action, TermTree, name, fun}
+use Rattle.sq_term.specs.Syntax.{macro, schema, diff, le, ts_eq, idx_eq, happens, all, some, find}
+use Rattle.sq_term.specs.Syntax.{TermTrees, nil, cons}
 use Rattle.sq_print.specs.declared.form.Form.{Form}
 use Rattle.sq_print.specs.declared.form.Form.TheVariants as form
-use Rattle.sq_print.specs.declared.form.Layout.{Layout}
-use Rattle.sq_print.specs.declared.form.Layout.TheVariants.{And, Or, Implies, Equal, Pair, Conditional}
-use Rattle.sq_print.specs.Forms.{rank, layout_of, count}
-use Rattle.sq_print.specs.Names.{Names, text_at, name_word, action_word, function_word, binder_name, bound_names}
+use Rattle.sq_print.specs.Forms.{rank, left_form, right_form, layout_of}
+use Rattle.sq_print.specs.Names.{Names, text_at, name_word, action_word, function_word, binder_name}
+use Rattle.sq_print.specs.Names.{bound_names}
 use Rattle.sq_print.specs.Printed.{joined, idx_text}
 
 -- ---- the text of a syntax tree
@@ -33,13 +44,21 @@ group_text g = joined (codes ", ") g.0 ++ (codes ":" ++ reserved_text (sort_word
 
 abbrev mutual
   pub text_of : FormulaTree → List ℕ
-  text_of (tree.quantified q gs a) = reserved_text (quantifier_word q) ++ (codes " (" ++ (joined (codes ", ") (map group_text gs) ++ (codes "), " ++ text_of a)))
-  text_of (tree.binary o a b) = text_of a ++ ((codes " " ++ (punctuation_text (binary_mark o) ++ codes " ")) ++ text_of b)
+  text_of (tree.quantified q gs a) =
+      reserved_text (quantifier_word q) ++
+      (codes " (" ++ (joined (codes ", ") (map group_text gs) ++ (codes "), " ++ text_of a)))
+  text_of (tree.binary o a b) =
+      text_of a ++ ((codes " " ++ (punctuation_text (binary_mark o) ++ codes " ")) ++ text_of b)
   text_of (tree.group a) = codes "(" ++ (text_of a ++ codes ")")
   text_of (tree.pair a b) = codes "<" ++ (text_of a ++ (codes "," ++ (text_of b ++ codes ">")))
   text_of (tree.constant c) = reserved_text (constant_word c)
-  text_of (tree.conditional a b c) = codes "if " ++ (text_of a ++ (codes " then " ++ (text_of b ++ (codes " else " ++ text_of c))))
-  text_of (tree.find xs a b c) = codes "find " ++ (joined (codes ", ") xs ++ (codes " such that " ++ (text_of a ++ (codes " in " ++ (text_of b ++ (codes " else " ++ text_of c))))))
+  text_of (tree.conditional a b c) =
+      codes "if " ++ (text_of a ++ (codes " then " ++ (text_of b ++ (codes " else " ++ text_of c))))
+  text_of (tree.find xs a b c) =
+      codes "find " ++
+      (joined (codes ", ") xs ++
+      (codes " such that " ++
+      (text_of a ++ (codes " in " ++ (text_of b ++ (codes " else " ++ text_of c))))))
   text_of (tree.diff a b) = codes "diff(" ++ (text_of a ++ (codes "," ++ (text_of b ++ codes ")")))
   text_of (tree.unary u a) = reserved_text (unary_word u) ++ (codes "(" ++ (text_of a ++ codes ")"))
   text_of (tree.value m a) = reserved_text (grammar.macro_word m) ++ (codes "@" ++ text_of a)
@@ -64,7 +83,8 @@ called word (tree.more a xs) = tree.apply word (tree.more a xs)
 -- indices, in front of other arguments
 abbrev pub index_trees : Names → List (List ℕ) → List Idx → FormulaTrees → FormulaTrees
 index_trees ns around [] rest = rest
-index_trees ns around (i ∷ is) rest = tree.more (tree.name (idx_text ns around i)) (index_trees ns around is rest)
+index_trees ns around (i ∷ is) rest =
+    tree.more (tree.name (idx_text ns around i)) (index_trees ns around is rest)
 
 abbrev pub ts_syntax : Names → List (List ℕ) → TsTree → FormulaTree
 ts_syntax ns around (free k) = tree.name (text_at ns.vars k)
@@ -80,36 +100,35 @@ macro_of_term macro_of.Cond = macro_word.Cond
 macro_of_term macro_of.Exec = macro_word.Exec
 macro_of_term macro_of.Frame = macro_word.Frame
 
-abbrev pub laid_two : Layout → FormulaTree → FormulaTree → FormulaTree
-laid_two And a b = tree.binary binary.And (in_place form.Atom a) (in_place form.Conjunction b)
-laid_two Or a b = tree.binary binary.Or (in_place form.Conjunction a) (in_place form.Disjunction b)
-laid_two Implies a b = tree.binary binary.Implies (in_place form.Disjunction a) (in_place form.Formula b)
-laid_two Equal a b = tree.binary binary.Equal (in_place form.Term a) (in_place form.Term b)
-laid_two Pair a b = tree.pair (in_place form.Term a) (in_place form.Term b)
-laid_two Conditional a b = tree.constant constant.Empty
+abbrev pub operator : Level → Binary
+operator level.Atom = binary.Equal
+operator level.Conjunction = binary.And
+operator level.Disjunction = binary.Or
+operator level.Formula = binary.Implies
 
-abbrev pub laid_three : FormulaTree → FormulaTree → FormulaTree → FormulaTree
-laid_three a b c = tree.conditional (in_place form.Formula a) (in_place form.Term b) (in_place form.Term c)
-
+-- the arguments of a function that is not written as a word
 abbrev pub laid_tree : Layout → FormulaTrees → FormulaTree
-laid_tree l tree.none = tree.constant constant.Empty
-laid_tree l (tree.more a tree.none) = tree.constant constant.Empty
-laid_tree l (tree.more a (tree.more b tree.none)) = laid_two l a b
-laid_tree l (tree.more a (tree.more b (tree.more c xs))) = laid_three a b c
+laid_tree (Infix l) (tree.more a (tree.more b tree.none)) =
+    tree.binary (operator l) (in_place (left_form l) a) (in_place (right_form l) b)
+laid_tree Pair (tree.more a (tree.more b tree.none)) =
+    tree.pair (in_place form.Term a) (in_place form.Term b)
+laid_tree Conditional (tree.more a (tree.more b (tree.more c tree.none))) =
+    tree.conditional (in_place form.Formula a) (in_place form.Term b) (in_place form.Term c)
+laid_tree _ _ = tree.constant constant.Empty
 
 -- the reserved word of a function without arguments, and of one with one argument
-abbrev pub constant_of : ℕ → Option Constant
-constant_of f =
-    if nat_eq f 0 then Some constant.Empty
-    else (if nat_eq f 1 then Some constant.True
-    else (if nat_eq f 2 then Some constant.False else None))
+abbrev pub constant_of : Kind → Option Constant
+constant_of kind.empty = Some constant.Empty
+constant_of kind.truth = Some constant.True
+constant_of kind.falsity = Some constant.False
+constant_of f = None
 
-abbrev pub unary_of : ℕ → Option Unary
-unary_of f =
-    if nat_eq f 3 then Some unary.Not
-    else (if nat_eq f 10 then Some unary.Fst
-    else (if nat_eq f 11 then Some unary.Snd
-    else (if nat_eq f 12 then Some unary.OfBool else None)))
+abbrev pub unary_of : Kind → Option Unary
+unary_of kind.negation = Some unary.Not
+unary_of kind.first = Some unary.Fst
+unary_of kind.second = Some unary.Snd
+unary_of kind.of_bool = Some unary.OfBool
+unary_of f = None
 
 abbrev pub constant_or : Option Constant → List ℕ → FormulaTree
 constant_or (Some c) word = tree.constant c
@@ -120,36 +139,49 @@ unary_or (Some u) word a = tree.unary u a
 unary_or None word a = tree.apply word (tree.more a tree.none)
 
 -- a function that is written as a word
-abbrev pub applied : Names → List (List ℕ) → ℕ → List Idx → FormulaTrees → FormulaTree
+abbrev pub applied : Names → List (List ℕ) → Kind → List Idx → FormulaTrees → FormulaTree
 applied ns around f [] tree.none = constant_or (constant_of f) (function_word ns f)
 applied ns around f [] (tree.more a tree.none) = unary_or (unary_of f) (function_word ns f) a
-applied ns around f [] (tree.more a (tree.more b xs)) = tree.apply (function_word ns f) (tree.more a (tree.more b xs))
+applied ns around f [] (tree.more a (tree.more b xs)) =
+    tree.apply (function_word ns f) (tree.more a (tree.more b xs))
 applied ns around f (i ∷ is) xs = called (function_word ns f) (index_trees ns around (i ∷ is) xs)
 
-abbrev pub function_syntax : Option Layout → Names → List (List ℕ) → ℕ → List Idx → FormulaTrees → FormulaTree
-function_syntax (Some l) ns around f is xs = laid_tree l xs
-function_syntax None ns around f is xs = applied ns around f is xs
+abbrev pub function_syntax : Layout → Names → List (List ℕ) → Kind → List Idx → FormulaTrees
+    → FormulaTree
+function_syntax Word ns around f is xs = applied ns around f is xs
+function_syntax l ns around f is xs = laid_tree l xs
 
 abbrev mutual
   pub term_syntax : Names → List (List ℕ) → TermTree → FormulaTree
   term_syntax ns around (name n is) = called (name_word ns n) (index_trees ns around is tree.none)
-  term_syntax ns around (fun f is ts) = function_syntax (layout_of f (length is) (count ts)) ns around f is (term_syntaxes ns around ts)
+  term_syntax ns around (fun f is ts) =
+      function_syntax (layout_of f (length is) (count_terms ts)) ns around f is
+      (term_syntaxes ns around ts)
   term_syntax ns around (macro m t) = tree.value (macro_of_term m) (ts_syntax ns around t)
   term_syntax ns around (schema k) = tree.name (text_at ns.schemas k)
   term_syntax ns around (diff a b) = tree.diff (term_syntax ns around a) (term_syntax ns around b)
-  term_syntax ns around (le a b) = tree.binary binary.LessEqual (ts_syntax ns around a) (ts_syntax ns around b)
-  term_syntax ns around (ts_eq a b) = tree.binary binary.Equal (ts_syntax ns around a) (ts_syntax ns around b)
-  term_syntax ns around (idx_eq i j) = tree.binary binary.Equal (tree.name (idx_text ns around i)) (tree.name (idx_text ns around j))
+  term_syntax ns around (le a b) =
+      tree.binary binary.LessEqual (ts_syntax ns around a) (ts_syntax ns around b)
+  term_syntax ns around (ts_eq a b) =
+      tree.binary binary.Equal (ts_syntax ns around a) (ts_syntax ns around b)
+  term_syntax ns around (idx_eq i j) =
+      tree.binary binary.Equal (tree.name (idx_text ns around i)) (tree.name (idx_text ns around j))
   term_syntax ns around (happens t) = tree.unary unary.Happens (ts_syntax ns around t)
-  term_syntax ns around (all s t) = tree.quantified Forall ((binder_name ns around s ∷ [], s) ∷ []) (term_syntax ns (around ++ binder_name ns around s ∷ []) t)
-  term_syntax ns around (some s t) = tree.quantified Exists ((binder_name ns around s ∷ [], s) ∷ []) (term_syntax ns (around ++ binder_name ns around s ∷ []) t)
+  term_syntax ns around (all s t) =
+      tree.quantified Forall ((binder_name ns around s ∷ [], s) ∷ [])
+      (term_syntax ns (around ++ binder_name ns around s ∷ []) t)
+  term_syntax ns around (some s t) =
+      tree.quantified Exists ((binder_name ns around s ∷ [], s) ∷ [])
+      (term_syntax ns (around ++ binder_name ns around s ∷ []) t)
   term_syntax ns around (find n t u v) =
       tree.find (bound_names ns around n) (term_syntax ns (around ++ bound_names ns around n) t)
-      (in_place form.Term (term_syntax ns (around ++ bound_names ns around n) u)) (in_place form.Term (term_syntax ns around v))
+      (in_place form.Term (term_syntax ns (around ++ bound_names ns around n) u))
+      (in_place form.Term (term_syntax ns around v))
 
   pub term_syntaxes : Names → List (List ℕ) → TermTrees → FormulaTrees
   term_syntaxes ns around nil = tree.none
-  term_syntaxes ns around (cons t ts) = tree.more (term_syntax ns around t) (term_syntaxes ns around ts)
+  term_syntaxes ns around (cons t ts) =
+      tree.more (term_syntax ns around t) (term_syntaxes ns around ts)
 
 -- no quantifier binds a Boolean, and each find binds an index
 abbrev mutual

@@ -15,31 +15,38 @@ ghost use Rattle.sq_readback.specs.Calls.{IsWithinLimits, ComesBack};
 
 /// The printed form of a term is the text of a syntax tree, which the grammar has as a formula.
 pub fn a_printed_term_is_a_formula()
-    ensures text { (ns : Names) (around : List (List ℕ)) (t : TermTree) → text_of (term_syntax ns around t) ≡ term_text ns around t }
-    ensures formula { (ns : Names) (around : List (List ℕ)) (t : TermTree) → IsWritable t → Is Formula (term_syntax ns around t) (spelled (term_syntax ns around t)) }
+    ensures text { (ns : Names) (around : List (List ℕ)) (t : TermTree)
+        → text_of (term_syntax ns around t) ≡ term_text ns around t }
+    ensures formula { (ns : Names) (around : List (List ℕ)) (t : TermTree) → IsWritable t
+        → Is Formula (term_syntax ns around t) (spelled (term_syntax ns around t)) }
 {}
 
 /// Where its names are identifiers, the printed form of a term is read as the tokens of that tree.
 pub fn a_printed_term_is_read_as_its_tokens()
-    ensures { (ns : Names) (around : List (List ℕ)) (t : TermTree) → IsNamed (term_syntax ns around t) → IsRead (term_text ns around t) (spelled (term_syntax ns around t)) }
+    ensures { (ns : Names) (around : List (List ℕ)) (t : TermTree)
+        → IsNamed (term_syntax ns around t)
+        → IsRead (term_text ns around t) (spelled (term_syntax ns around t)) }
 {}
 
-/// What is printed in a scope with plain names is read back there: its tokens are those of a formula
-/// of the grammar, and the sorts give this formula the term.
+/// What is printed in a scope with plain names is read back there: its tokens are those of a
+/// formula of the grammar, and the sorts give this formula the term.
 pub fn a_printed_term_is_read_back()
-    ensures { (c : Context) (s : Sort) (t : TermTree) → IsReadable c s t → IsReadBack c s (term_text (names_of c) [] t) t }
+    ensures { (c : Context) (s : Sort) (t : TermTree) → IsReadable c s t
+        → IsReadBack c s (term_text (names_of c) [] t) t }
 {}
 
 /// In such a scope no two terms of one sort are printed alike.
 pub fn terms_are_printed_apart()
-    ensures { (c : Context) (s : Sort) (t u : TermTree) → IsReadable c s t → IsReadable c s u → term_text (names_of c) [] t ≡ term_text (names_of c) [] u → t ≡ u }
+    ensures { (c : Context) (s : Sort) (t u : TermTree) → IsReadable c s t → IsReadable c s u
+        → term_text (names_of c) [] t ≡ term_text (names_of c) [] u → t ≡ u }
 {}
 
 /// Within the limits the calls that read do so: with a stop behind it, `lex` makes one sentence of
 /// the printed form, of its tokens `parse_formula` can answer one formula alone, which is all of
 /// them, and `resolve` makes the term of it.
 pub fn reading_undoes_printing()
-    ensures { (c : Context) (s : Sort) (t : TermTree) → IsReadable c s t → IsWithinLimits c t → ComesBack c s (term_text (names_of c) [] t) t }
+    ensures { (c : Context) (s : Sort) (t : TermTree) → IsReadable c s t → IsWithinLimits c t
+        → ComesBack c s (term_text (names_of c) [] t) t }
 {}
 
 /// There are a scope and a formula in it that meet all these conditions.

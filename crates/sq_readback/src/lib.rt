@@ -9,6 +9,3 @@ pub use laws::{
     reading_undoes_printing, terms_are_printed_apart, the_conditions_can_be_met,
 };
 pub use returning::print_and_read;
-
-#[cfg(test)]
-mod tests;

@@ -1,6 +1,7 @@
 // A term that is printed and read back by the calls themselves.
-ghost use Rattle.std.specs.Prelude.{◌≡◌, ◌++◌, [], IfOk, map, codes, Ok};
-ghost use Rattle.sq_lex.specs.Lex.{sentences as sentences_of, line_of};
+ghost use Rattle.std.specs.Prelude.{◌≡◌, ◌++◌, [], IfOk, map, codes};
+ghost use Rattle.sq_lex.specs.Answers.{AreSentences};
+ghost use Rattle.sq_lex.specs.Lexemes.{line_of};
 ghost use Rattle.sq_ast.specs.View.{formula_tree};
 ghost use Rattle.sq_term.specs.View.{term_tree};
 ghost use Rattle.sq_print.specs.Printed.{term_text};
@@ -19,12 +20,7 @@ use sq_system::Env;
 use sq_term::Term;
 use std::alloc::Global;
 
-/// The most bytes that are cut into sentences.
-const MOST_BYTES: usize = 4_294_967_294;
-
 /// Prints a term, and reads the text back in the same scope.
-///
-/// A text of more bytes than can be cut into sentences is as want of memory.
 pub fn print_and_read(
     alloc: Global,
     t: &Term,
@@ -57,7 +53,17 @@ fn variable_names(alloc: Global, vars: &[(Text, Sort)]) -> Result<Seq<Text>, NoM
 }
 
 fn printed_sentence(alloc: Global, t: &Term, scope: &Scope, table: &Table) -> Result<Text, NoMemory>
-    ensures { IfOk result (λ text. text ≡ term_text (record { schemas = scope.now.schemas; vars = map (λ (v : Variable). v.0) scope.now.vars; system = scope.now.system; table = table.now }) [] (term_tree t.now) ++ codes ".") }
+    ensures { IfOk result
+        (λ text. text
+        ≡ term_text
+        (record {
+          schemas = scope.now.schemas;
+          vars = map
+              (λ (v : Variable). v.0) scope.now.vars;
+          system = scope.now.system;
+          table = table.now;
+        }) []
+        (term_tree t.now) ++ codes ".") }
 {
     let names = variable_names(alloc, scope.vars.as_slice())?;
     let mut text = print_term(alloc, t, &scope.schemas, &names, scope.system, table)?;
@@ -66,13 +72,9 @@ fn printed_sentence(alloc: Global, t: &Term, scope: &Scope, table: &Table) -> Re
 }
 
 fn read_sentences(alloc: Global, text: &Text) -> Result<Seq<Sentence>, NoMemory>
-    ensures { IfOk result (λ found. sentences_of text.now ≡ Ok (map line_of found)) }
+    ensures { IfOk result (λ found. AreSentences text.now (map line_of found)) }
 {
-    let bytes = text.as_str().as_bytes();
-    if bytes.len() > MOST_BYTES {
-        return Err(NoMemory);
-    }
-    match lex(alloc, bytes) {
+    match lex(alloc, text.as_str().as_bytes()) {
         Ok(found) => Ok(found),
         Err(_) => Err(NoMemory),
     }

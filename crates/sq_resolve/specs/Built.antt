@@ -1,5 +1,6 @@
 -- Terms that are built within the limits of a formula.
-use Rattle.std.specs.Prelude.{◌≡◌, ℕ, ◌≤◌, ◌<◌, List, [], map, Result, Ok, Err, Bool, true, ◌&&◌, nat_le, cond, ◌≢◌}
+use Rattle.std.specs.Prelude.{◌≡◌, ℕ, ◌≤◌, ◌<◌, List, [], map, Result, Ok, Err, Bool, true, ◌&&◌}
+use Rattle.std.specs.Prelude.{nat_le, cond, ◌≢◌}
 use Rattle.sq_base.specs.declared.sort.Sort.{Sort}
 use Rattle.sq_base.specs.declared.sort.Sort.TheVariants.{Index}
 use Rattle.sq_ast.specs.Tree.{FormulaTree}
@@ -39,7 +40,8 @@ abbrev pub IsRow : Row → List TermTree → Type 0
 IsRow (r.Within s) ts = MeasuresRow s ts
 IsRow r.TooLarge ts = sizes (row ts) ≤ 65536 → 1000 < depths (row ts)
 
--- a call that builds the term of a place, or answers the fault of the first place in it that has one
+-- a call that builds the term of a place, or answers the fault of the first place in it that has
+-- one
 abbrev pub Builds : Result Built ResolveFault → Found TermTree → Type 0
 Builds (Ok b) (Ok t) = IsBuilt b t
 Builds (Ok b) (Err e) = ⊥
@@ -63,7 +65,9 @@ within_limits nodes deep = nat_le nodes 65536 && nat_le deep 1000
 
 -- an index or a timestamp of a tree that stands behind no binder
 abbrev pub arg_of : Context → Sort → FormulaTree → Found ArgTree
-arg_of c want f = cond (is_same_sort want Index) (mapped an_index (index_of c [] f)) (mapped a_time (time_of c [] f))
+arg_of c want f =
+    cond (is_same_sort want Index) (mapped an_index (index_of c [] f))
+    (mapped a_time (time_of c [] f))
 
 abbrev pub arg_fits : ArgTree → Bool
 arg_fits (an_index i) = true

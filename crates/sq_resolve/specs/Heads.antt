@@ -4,9 +4,11 @@ use Rattle.sq_resolve.specs.declared.judge.Moment.{Moment as Held}
 use Rattle.sq_resolve.specs.declared.judge.Moment.TheVariants as m
 use Rattle.sq_resolve.specs.declared.judge.Value.{Value as HeldValue}
 use Rattle.sq_resolve.specs.declared.judge.Value.TheVariants as v
+use Rattle.sq_term.specs.Symbols.{kind_of}
 use Rattle.sq_term.specs.View.{ts_tree}
 use Rattle.sq_resolve.specs.Scopes.{Context, context}
-use Rattle.sq_resolve.specs.Resolved.{Moment, moment, instance, Value, schema_variable, name_symbol, function}
+use Rattle.sq_resolve.specs.Resolved.{Moment, moment, instance, Value, schema_variable, name_symbol}
+use Rattle.sq_resolve.specs.Resolved.{function}
 
 abbrev pub context_of : Resolver → Context
 context_of r = context r.scope.now r.table.now r.env.now
@@ -18,4 +20,4 @@ moment_of (m.Instance a) = instance a
 abbrev pub value_of : HeldValue → Value
 value_of (v.Schema k) = schema_variable k
 value_of (v.Name n) = name_symbol n
-value_of (v.Function f i) = function f i
+value_of (v.Function f i) = function (kind_of f) i

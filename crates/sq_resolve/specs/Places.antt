@@ -1,20 +1,24 @@
 -- The places of a tree in preorder, and the first at which no case applies.
-use Rattle.std.specs.Prelude.{ℕ, zero, suc, List, [], ◌∷◌, ◌++◌, Option, Some, None, Bool, cond, is_some, ◌==◌, Result, Ok, Err}
+use Rattle.std.specs.Prelude.{ℕ, zero, suc, List, [], ◌∷◌, ◌++◌, Option, Some, None, Bool, cond}
+use Rattle.std.specs.Prelude.{is_some, ◌==◌, Result, Ok, Err}
 use Rattle.sq_base.specs.declared.sort.Sort.{Sort}
 use Rattle.sq_base.specs.declared.sort.Sort.TheVariants.{Message, Boolean, Index, Timestamp}
 use Rattle.sq_ast.specs.declared.formula.Binary.{Binary}
 use Rattle.sq_ast.specs.declared.formula.Binary.TheVariants.{Equal, NotEqual, LessEqual, Less}
 use Rattle.sq_ast.specs.declared.formula.Unary.{Unary}
 use Rattle.sq_ast.specs.declared.formula.Unary.TheVariants.{Not, Fst, Snd, OfBool, Happens, Pred}
-use Rattle.sq_ast.specs.Tree.{FormulaTree, quantified, binary, group, pair, constant, conditional, find, diff, unary, value, name, apply, FormulaTrees, none, more}
-use Rattle.sq_system.specs.Typing.{is_binder_sort}
+use Rattle.sq_ast.specs.Tree.{FormulaTree, quantified, binary, group, pair, constant, conditional}
+use Rattle.sq_ast.specs.Tree.{find, diff, unary, value, name, apply, FormulaTrees, none, more}
+use Rattle.sq_term.specs.Pure.{is_binder_sort}
 use Rattle.sq_term.specs.TreeEquality.{is_same_sort}
 use Rattle.sq_resolve.specs.declared.fault.ResolveFault.{ResolveFault}
-use Rattle.sq_resolve.specs.declared.fault.ResolveFault.TheVariants.{Unknown, Arity, SortClash, MessageQuantifier}
+use Rattle.sq_resolve.specs.declared.fault.ResolveFault.TheVariants.{Unknown, Arity, SortClash}
+use Rattle.sq_resolve.specs.declared.fault.ResolveFault.TheVariants.{MessageQuantifier}
 use Rattle.sq_resolve.specs.declared.head.Head.{Head}
 use Rattle.sq_resolve.specs.declared.head.Head.TheVariants as head
 use Rattle.sq_resolve.specs.Scopes.{Variable, Context, meaning, head_sort, head_arity, first_some}
-use Rattle.sq_resolve.specs.Resolved.{as_index, as_moment, as_value, own_sort, count_trees, group_variables, variables, bind_no_message}
+use Rattle.sq_resolve.specs.Resolved.{as_index, as_moment, as_value, own_sort, count_trees}
+use Rattle.sq_resolve.specs.Resolved.{group_variables, variables, bind_no_message}
 
 -- a tree behind binders, where a sort is wanted
 pub record Place : Type 0 where
@@ -35,7 +39,9 @@ stands_for Message h = is_some (as_value Message h)
 stands_for Boolean h = is_some (as_value Boolean h)
 
 abbrev pub head_fault : Bool → Sort → List ℕ → ℕ → Head → Option ResolveFault
-head_fault stands want x n h = cond (head_arity h == n) (cond stands None (Some (SortClash want (head_sort h)))) (Some (Arity x (head_arity h) n))
+head_fault stands want x n h =
+    cond (head_arity h == n) (cond stands None (Some (SortClash want (head_sort h))))
+    (Some (Arity x (head_arity h) n))
 
 abbrev pub identifier_fault : Sort → List ℕ → ℕ → Option Head → Option ResolveFault
 identifier_fault want x n None = Some (Unknown x)
@@ -43,9 +49,11 @@ identifier_fault want x n (Some h) = head_fault (stands_for want h) want x n h
 
 -- a tree at a place; parentheses and the two sides of a difference are judged by their parts
 abbrev pub own_fault : Context → List Variable → Sort → FormulaTree → Option ResolveFault
-own_fault c bs want (quantified q gs a) = first_some (clash want Boolean) (cond (bind_no_message gs) None (Some MessageQuantifier))
+own_fault c bs want (quantified q gs a) =
+    first_some (clash want Boolean) (cond (bind_no_message gs) None (Some MessageQuantifier))
 own_fault c bs want (group a) = None
-own_fault c bs want (diff a b) = cond (is_binder_sort want) (Some (SortClash want (own_sort c bs (diff a b)))) None
+own_fault c bs want (diff a b) =
+    cond (is_binder_sort want) (Some (SortClash want (own_sort c bs (diff a b)))) None
 own_fault c bs want (name x) = identifier_fault want x 0 (meaning c bs x)
 own_fault c bs want (apply x xs) = identifier_fault want x (count_trees xs) (meaning c bs x)
 own_fault c bs want f = clash want (own_sort c bs f)
@@ -82,20 +90,37 @@ index_count h = 0
 
 abbrev mutual
   pub places : Context → List Variable → Sort → FormulaTree → List Place
-  places c bs want (quantified q gs a) = record { around = bs; want = want; tree = quantified q gs a } ∷ places c (bs ++ variables gs) Boolean a
-  places c bs want (binary o a b) = record { around = bs; want = want; tree = binary o a b } ∷ (places c bs (operand_sort o (own_sort c bs a)) a ++ places c bs (operand_sort o (own_sort c bs a)) b)
-  places c bs want (group a) = record { around = bs; want = want; tree = group a } ∷ places c bs want a
-  places c bs want (pair a b) = record { around = bs; want = want; tree = pair a b } ∷ (places c bs Message a ++ places c bs Message b)
+  places c bs want (quantified q gs a) =
+      record { around = bs; want = want; tree = quantified q gs a } ∷ places c
+      (bs ++ variables gs) Boolean a
+  places c bs want (binary o a b) =
+      record { around = bs; want = want; tree = binary o a b } ∷
+      (places c bs (operand_sort o (own_sort c bs a)) a ++ places c bs
+      (operand_sort o (own_sort c bs a)) b)
+  places c bs want (group a) =
+      record { around = bs; want = want; tree = group a } ∷ places c bs want a
+  places c bs want (pair a b) =
+      record { around = bs; want = want; tree = pair a b } ∷
+      (places c bs Message a ++ places c bs Message b)
   places c bs want (constant k) = record { around = bs; want = want; tree = constant k } ∷ []
-  places c bs want (conditional a b d) = record { around = bs; want = want; tree = conditional a b d } ∷ (places c bs Boolean a ++ (places c bs Message b ++ places c bs Message d))
+  places c bs want (conditional a b d) =
+      record { around = bs; want = want; tree = conditional a b d } ∷
+      (places c bs Boolean a ++ (places c bs Message b ++ places c bs Message d))
   places c bs want (find ns a b d) =
       record { around = bs; want = want; tree = find ns a b d }
-      ∷ (places c (bs ++ group_variables Index ns) Boolean a ++ (places c (bs ++ group_variables Index ns) Message b ++ places c bs Message d))
-  places c bs want (diff a b) = record { around = bs; want = want; tree = diff a b } ∷ (places c bs want a ++ places c bs want b)
-  places c bs want (unary u a) = record { around = bs; want = want; tree = unary u a } ∷ places c bs (part_sort u) a
-  places c bs want (value w a) = record { around = bs; want = want; tree = value w a } ∷ places c bs Timestamp a
+      ∷ (places c (bs ++ group_variables Index ns) Boolean a ++
+      (places c (bs ++ group_variables Index ns) Message b ++ places c bs Message d))
+  places c bs want (diff a b) =
+      record { around = bs; want = want; tree = diff a b } ∷
+      (places c bs want a ++ places c bs want b)
+  places c bs want (unary u a) =
+      record { around = bs; want = want; tree = unary u a } ∷ places c bs (part_sort u) a
+  places c bs want (value w a) =
+      record { around = bs; want = want; tree = value w a } ∷ places c bs Timestamp a
   places c bs want (name x) = record { around = bs; want = want; tree = name x } ∷ []
-  places c bs want (apply x xs) = record { around = bs; want = want; tree = apply x xs } ∷ argument_places c bs (index_count (meaning c bs x)) xs
+  places c bs want (apply x xs) =
+      record { around = bs; want = want; tree = apply x xs } ∷ argument_places c bs
+      (index_count (meaning c bs x)) xs
 
   pub argument_places : Context → List Variable → ℕ → FormulaTrees → List Place
   argument_places c bs i none = []

@@ -1,28 +1,37 @@
 -- The term of a tree in a scope, or why there is none: one equation for each form.
-use Rattle.std.specs.Prelude.{ℕ, zero, suc, ◌+◌, List, [], ◌∷◌, ◌++◌, map, Option, Some, None, Result, Ok, Err, Bool, true, cond, ◌&&◌, ◌==◌, length}
+use Rattle.std.specs.Prelude.{ℕ, zero, suc, ◌+◌, List, [], ◌∷◌, ◌++◌, map, Option, Some, None}
+use Rattle.std.specs.Prelude.{Result, Ok, Err, Bool, true, cond, ◌&&◌, ◌==◌, length}
 use Rattle.sq_base.specs.declared.sort.Sort.{Sort}
 use Rattle.sq_base.specs.declared.sort.Sort.TheVariants.{Message, Boolean, Index, Timestamp}
 use Rattle.sq_ast.specs.declared.formula.Quantifier.{Quantifier}
 use Rattle.sq_ast.specs.declared.formula.Quantifier.TheVariants.{Forall, Exists}
 use Rattle.sq_ast.specs.declared.formula.Binary.{Binary}
-use Rattle.sq_ast.specs.declared.formula.Binary.TheVariants.{Implies, Or, Equal, NotEqual, LessEqual, Less}
+use Rattle.sq_ast.specs.declared.formula.Binary.TheVariants.{Implies, Or, Equal, NotEqual}
+use Rattle.sq_ast.specs.declared.formula.Binary.TheVariants.{LessEqual, Less}
 use Rattle.sq_ast.specs.declared.formula.Constant.{Constant}
 use Rattle.sq_ast.specs.declared.formula.Constant.TheVariants.{True, False, Empty, Init}
 use Rattle.sq_ast.specs.declared.formula.Unary.{Unary}
 use Rattle.sq_ast.specs.declared.formula.Unary.TheVariants.{Not, Fst, Snd, OfBool, Happens, Pred}
 use Rattle.sq_ast.specs.declared.formula.MacroWord.{MacroWord}
 use Rattle.sq_ast.specs.declared.formula.MacroWord.TheVariants.{Input, Output, Cond, Exec, Frame}
-use Rattle.sq_ast.specs.Tree.{Group, FormulaTree, quantified, binary, group, pair, constant, conditional, find, diff, unary, value, name, apply, FormulaTrees, none, more}
+use Rattle.sq_ast.specs.Tree.{Group, FormulaTree, quantified, binary, group, pair, constant}
+use Rattle.sq_ast.specs.Tree.{conditional, find, diff, unary, value, name, apply, FormulaTrees}
+use Rattle.sq_ast.specs.Tree.{none, more}
 use Rattle.sq_term.specs.declared.term.Idx.{Idx}
 use Rattle.sq_term.specs.declared.term.Idx.TheVariants as idx
 use Rattle.sq_term.specs.declared.term.Macro.{Macro}
 use Rattle.sq_term.specs.declared.term.Macro.TheVariants as m
+use Rattle.sq_term.specs.Formulas as formula
+use Rattle.sq_term.specs.Symbols as kind
+use Rattle.sq_term.specs.Symbols.{Kind, kind_of}
 use Rattle.sq_term.specs.Syntax as t
 use Rattle.sq_term.specs.Syntax.{TsTree, TermTree, TermTrees, nil, cons}
-use Rattle.sq_system.specs.Typing.{is_binder_sort, macro_sort}
+use Rattle.sq_term.specs.Pure.{is_binder_sort}
+use Rattle.sq_typing.specs.Typing.{macro_sort}
 use Rattle.sq_term.specs.TreeEquality.{is_same_sort}
 use Rattle.sq_resolve.specs.declared.fault.ResolveFault.{ResolveFault}
-use Rattle.sq_resolve.specs.declared.fault.ResolveFault.TheVariants.{Unknown, Arity, SortClash, MessageQuantifier}
+use Rattle.sq_resolve.specs.declared.fault.ResolveFault.TheVariants.{Unknown, Arity, SortClash}
+use Rattle.sq_resolve.specs.declared.fault.ResolveFault.TheVariants.{MessageQuantifier}
 use Rattle.sq_resolve.specs.declared.head.Head.{Head}
 use Rattle.sq_resolve.specs.declared.head.Head.TheVariants as head
 use Rattle.sq_resolve.specs.Scopes.{Variable, Context, meaning, head_sort, head_arity}
@@ -87,12 +96,13 @@ as_moment h = None
 pub data Value : Type 0 where
   schema_variable : ℕ → Value
   name_symbol : ℕ → Value
-  function : ℕ → ℕ → Value
+  function : Kind → ℕ → Value
 
 abbrev pub as_value : Sort → Head → Option Value
 as_value want (head.Schema k) = cond (is_same_sort want Message) (Some (schema_variable k)) None
 as_value want (head.Name n k) = cond (is_same_sort want Message) (Some (name_symbol n)) None
-as_value want (head.Function f i n s) = cond (is_same_sort want s) (Some (function f i)) None
+as_value want (head.Function f i n s) =
+    cond (is_same_sort want s) (Some (function (kind_of f) i)) None
 as_value want h = None
 
 -- ---- the own sort of a tree, read off its outermost form
@@ -174,26 +184,15 @@ time_of c bs (group a) = time_of c bs a
 time_of c bs (constant Init) = Ok t.init
 time_of c bs (unary Pred a) = mapped t.pred (time_of c bs a)
 time_of c bs (name x) = at_indices (judged as_moment Timestamp x 0 (meaning c bs x)) (Ok [])
-time_of c bs (apply x xs) = at_indices (judged as_moment Timestamp x (count_trees xs) (meaning c bs x)) (indices_of c bs xs)
+time_of c bs (apply x xs) =
+    at_indices (judged as_moment Timestamp x (count_trees xs) (meaning c bs x)) (indices_of c bs xs)
 time_of c bs a = Err (SortClash Timestamp (own_sort c bs a))
 
 -- ---- terms
 
-abbrev pub call0 : ℕ → TermTree
-call0 f = t.fun f [] nil
-
-abbrev pub call1 : ℕ → TermTree → TermTree
-call1 f a = t.fun f [] (cons a nil)
-
-abbrev pub call2 : ℕ → TermTree → TermTree → TermTree
-call2 f a b = t.fun f [] (cons a (cons b nil))
-
-abbrev pub call3 : ℕ → TermTree → TermTree → TermTree → TermTree
-call3 f a b d = t.fun f [] (cons a (cons b (cons d nil)))
-
 -- `T < S` stands for `T <= S && not(T = S)`
 abbrev pub before : TsTree → TsTree → TermTree
-before u v = call2 4 (t.le u v) (call1 3 (t.ts_eq u v))
+before u v = formula.both (t.le u v) (formula.negation (t.ts_eq u v))
 
 abbrev pub quantifier : Quantifier → Sort → TermTree → TermTree
 quantifier Forall s a = t.all s a
@@ -225,21 +224,23 @@ by_sort Index i u a = i
 by_sort Timestamp i u a = u
 by_sort s i u a = a
 
-abbrev pub connective_number : Binary → ℕ
-connective_number Implies = 6
-connective_number Or = 5
-connective_number o = 4
+abbrev pub connective : Binary → Kind
+connective Implies = kind.implication
+connective Or = kind.disjunction
+connective o = kind.conjunction
 
-abbrev pub constant_number : Constant → ℕ
-constant_number True = 1
-constant_number False = 2
-constant_number k = 0
+abbrev pub constant_kind : Constant → Kind
+constant_kind True = kind.truth
+constant_kind False = kind.falsity
+constant_kind k = kind.empty
 
-abbrev pub function_term : ℕ → List Idx × TermTrees → TermTree
+abbrev pub function_term : Kind → List Idx × TermTrees → TermTree
 function_term f r = t.fun f r.0 r.1
 
--- what an identifier makes of its arguments: of all of them as indices, or of a function's first i as indices and the others as messages
-abbrev pub with_arguments : Found Value → Found (List Idx) → (ℕ → Found (List Idx × TermTrees)) → Found TermTree
+-- what an identifier makes of its arguments: of all of them as indices, or of a function's first i
+-- as indices and the others as messages
+abbrev pub with_arguments : Found Value → Found (List Idx) → (ℕ → Found (List Idx × TermTrees))
+    → Found TermTree
 with_arguments (Err e) is args = Err e
 with_arguments (Ok (schema_variable k)) is args = Ok (t.schema k)
 with_arguments (Ok (name_symbol n)) is args = mapped (t.name n) is
@@ -247,38 +248,58 @@ with_arguments (Ok (function f i)) is args = mapped (function_term f) (args i)
 
 abbrev mutual
   pub term_of : Context → List Variable → Sort → FormulaTree → Found TermTree
-  term_of c bs want (quantified q gs a) = expect want Boolean (with_binders gs (mapped (quantify q (variables gs)) (term_of c (bs ++ variables gs) Boolean a)))
+  term_of c bs want (quantified q gs a) =
+      expect want Boolean
+      (with_binders gs
+      (mapped (quantify q (variables gs)) (term_of c (bs ++ variables gs) Boolean a)))
   term_of c bs want (binary Equal a b) =
       expect want Boolean (by_sort (own_sort c bs a)
       (both t.idx_eq (index_of c bs a) (index_of c bs b))
       (both t.ts_eq (time_of c bs a) (time_of c bs b))
-      (both (call2 7) (term_of c bs Message a) (term_of c bs Message b)))
+      (both formula.equal (term_of c bs Message a) (term_of c bs Message b)))
   term_of c bs want (binary NotEqual a b) =
-      mapped (call1 3) (expect want Boolean (by_sort (own_sort c bs a)
+      mapped formula.negation (expect want Boolean (by_sort (own_sort c bs a)
       (both t.idx_eq (index_of c bs a) (index_of c bs b))
       (both t.ts_eq (time_of c bs a) (time_of c bs b))
-      (both (call2 7) (term_of c bs Message a) (term_of c bs Message b))))
-  term_of c bs want (binary LessEqual a b) = expect want Boolean (both t.le (time_of c bs a) (time_of c bs b))
-  term_of c bs want (binary Less a b) = expect want Boolean (both before (time_of c bs a) (time_of c bs b))
-  term_of c bs want (binary o a b) = expect want Boolean (both (call2 (connective_number o)) (term_of c bs Boolean a) (term_of c bs Boolean b))
+      (both formula.equal (term_of c bs Message a) (term_of c bs Message b))))
+  term_of c bs want (binary LessEqual a b) =
+      expect want Boolean (both t.le (time_of c bs a) (time_of c bs b))
+  term_of c bs want (binary Less a b) =
+      expect want Boolean (both before (time_of c bs a) (time_of c bs b))
+  term_of c bs want (binary o a b) =
+      expect want Boolean
+      (both (formula.binary (connective o)) (term_of c bs Boolean a) (term_of c bs Boolean b))
   term_of c bs want (group a) = term_of c bs want a
-  term_of c bs want (pair a b) = expect want Message (both (call2 9) (term_of c bs Message a) (term_of c bs Message b))
-  term_of c bs want (constant k) = expect want (constant_sort k) (Ok (call0 (constant_number k)))
+  term_of c bs want (pair a b) =
+      expect want Message (both formula.pair (term_of c bs Message a) (term_of c bs Message b))
+  term_of c bs want (constant k) =
+      expect want (constant_sort k) (Ok (formula.constant (constant_kind k)))
   term_of c bs want (conditional a b d) =
-      expect want Message (three (call3 8) (term_of c bs Boolean a) (term_of c bs Message b) (term_of c bs Message d))
+      expect want Message
+      (three formula.conditional (term_of c bs Boolean a) (term_of c bs Message b)
+      (term_of c bs Message d))
   term_of c bs want (find ns a b d) =
-      expect want Message (three (t.find (length ns)) (term_of c (bs ++ group_variables Index ns) Boolean a)
+      expect want Message
+      (three (t.find (length ns)) (term_of c (bs ++ group_variables Index ns) Boolean a)
       (term_of c (bs ++ group_variables Index ns) Message b) (term_of c bs Message d))
   term_of c bs want (diff a b) = both t.diff (term_of c bs want a) (term_of c bs want b)
-  term_of c bs want (unary Not a) = expect want Boolean (mapped (call1 3) (term_of c bs Boolean a))
-  term_of c bs want (unary Fst a) = expect want Message (mapped (call1 10) (term_of c bs Message a))
-  term_of c bs want (unary Snd a) = expect want Message (mapped (call1 11) (term_of c bs Message a))
-  term_of c bs want (unary OfBool a) = expect want Message (mapped (call1 12) (term_of c bs Boolean a))
+  term_of c bs want (unary Not a) =
+      expect want Boolean (mapped formula.negation (term_of c bs Boolean a))
+  term_of c bs want (unary Fst a) =
+      expect want Message (mapped formula.first (term_of c bs Message a))
+  term_of c bs want (unary Snd a) =
+      expect want Message (mapped formula.second (term_of c bs Message a))
+  term_of c bs want (unary OfBool a) =
+      expect want Message (mapped formula.of_bool (term_of c bs Boolean a))
   term_of c bs want (unary Happens a) = expect want Boolean (mapped t.happens (time_of c bs a))
   term_of c bs want (unary Pred a) = Err (SortClash want Timestamp)
-  term_of c bs want (value w a) = expect want (macro_sort (macro_of w)) (mapped (t.macro (macro_of w)) (time_of c bs a))
-  term_of c bs want (name x) = with_arguments (judged (as_value want) want x 0 (meaning c bs x)) (Ok []) (λ i. Ok ([], nil))
-  term_of c bs want (apply x xs) = with_arguments (judged (as_value want) want x (count_trees xs) (meaning c bs x)) (indices_of c bs xs) (λ i. arguments_of c bs i xs)
+  term_of c bs want (value w a) =
+      expect want (macro_sort (macro_of w)) (mapped (t.macro (macro_of w)) (time_of c bs a))
+  term_of c bs want (name x) =
+      with_arguments (judged (as_value want) want x 0 (meaning c bs x)) (Ok []) (λ i. Ok ([], nil))
+  term_of c bs want (apply x xs) =
+      with_arguments (judged (as_value want) want x (count_trees xs) (meaning c bs x))
+      (indices_of c bs xs) (λ i. arguments_of c bs i xs)
 
   pub terms_of : Context → List Variable → FormulaTrees → Found TermTrees
   terms_of c bs none = Ok nil
@@ -287,8 +308,10 @@ abbrev mutual
   -- the first i arguments as indices, the others as messages
   pub arguments_of : Context → List Variable → ℕ → FormulaTrees → Found (List Idx × TermTrees)
   arguments_of c bs i none = Ok ([], nil)
-  arguments_of c bs zero (more a xs) = mapped (λ ts. ([], ts)) (both cons (term_of c bs Message a) (terms_of c bs xs))
-  arguments_of c bs (suc i) (more a xs) = both (λ j r. (j ∷ r.0, r.1)) (index_of c bs a) (arguments_of c bs i xs)
+  arguments_of c bs zero (more a xs) =
+      mapped (λ ts. ([], ts)) (both cons (term_of c bs Message a) (terms_of c bs xs))
+  arguments_of c bs (suc i) (more a xs) =
+      both (λ j r. (j ∷ r.0, r.1)) (index_of c bs a) (arguments_of c bs i xs)
 
 -- an equation of these two trees
 abbrev pub equation : Context → List Variable → Sort → FormulaTree → FormulaTree → Found TermTree
@@ -296,8 +319,10 @@ equation c bs want a b =
     expect want Boolean (by_sort (own_sort c bs a)
     (both t.idx_eq (index_of c bs a) (index_of c bs b))
     (both t.ts_eq (time_of c bs a) (time_of c bs b))
-    (both (call2 7) (term_of c bs Message a) (term_of c bs Message b)))
+    (both formula.equal (term_of c bs Message a) (term_of c bs Message b)))
 
 -- an identifier with these n arguments
 abbrev pub application : Context → List Variable → Sort → List ℕ → ℕ → FormulaTrees → Found TermTree
-application c bs want x n xs = with_arguments (judged (as_value want) want x n (meaning c bs x)) (indices_of c bs xs) (λ i. arguments_of c bs i xs)
+application c bs want x n xs =
+    with_arguments (judged (as_value want) want x n (meaning c bs x)) (indices_of c bs xs)
+    (λ i. arguments_of c bs i xs)

@@ -1,5 +1,6 @@
 -- What an identifier means in a scope.
-use Rattle.std.specs.Prelude.{ℕ, ◌+◌, ◌-◌, List, [], ◌∷◌, Option, Some, None, if◌then◌else◌, cond, length, slice_get, option_map, ◌==◌}
+use Rattle.std.specs.Prelude.{ℕ, ◌+◌, ◌-◌, List, [], ◌∷◌, Option, Some, None, if◌then◌else◌, cond}
+use Rattle.std.specs.Prelude.{length, slice_get, option_map, ◌==◌}
 use Rattle.std.specs.Str.{bytes_eq}
 use Rattle.sq_base.specs.declared.sort.Sort.{Sort}
 use Rattle.sq_base.specs.declared.sort.Sort.TheVariants.{Message, Timestamp}
@@ -28,12 +29,23 @@ pub record Context : Type 0 where
   pub systems : List (List Action)
 
 abbrev pub context : Scope → List (List ℕ × Symbol) → Env → Context
-context s table e = record { system = s.system; vars = s.vars; schemas = s.schemas; table = table; names = e.names; funs = e.funs; systems = e.systems }
+context s table e =
+    record {
+      system = s.system;
+      vars = s.vars;
+      schemas = s.schemas;
+      table = table;
+      names =
+          e.names;
+      funs = e.funs;
+      systems = e.systems;
+    }
 
 -- the place, from k on, and the sort of the last variable with the name; `best` where there is none
 abbrev pub last_from : ℕ → Option (ℕ × Sort) → List ℕ → List Variable → Option (ℕ × Sort)
 last_from k best x [] = best
-last_from k best x (v ∷ vs) = last_from (k + 1) (if bytes_eq x v.0 then Some (k, v.1) else best) x vs
+last_from k best x (v ∷ vs) =
+    last_from (k + 1) (if bytes_eq x v.0 then Some (k, v.1) else best) x vs
 
 -- the last variable with the name
 abbrev pub last_of : List ℕ → List Variable → Option (ℕ × Sort)
@@ -41,7 +53,8 @@ last_of x vs = last_from 0 None x vs
 
 abbrev pub last_name_from : ℕ → Option ℕ → List ℕ → List (List ℕ) → Option ℕ
 last_name_from k best x [] = best
-last_name_from k best x (y ∷ ys) = last_name_from (k + 1) (if bytes_eq x y then Some k else best) x ys
+last_name_from k best x (y ∷ ys) =
+    last_name_from (k + 1) (if bytes_eq x y then Some k else best) x ys
 
 -- the last schema variable with the name
 abbrev pub last_name : List ℕ → List (List ℕ) → Option ℕ
@@ -69,15 +82,19 @@ abbrev pub action_head : ℕ → Option (List Action) → Option Head
 action_head a None = None
 action_head a (Some actions) = option_map (λ x. head.Action a x.arity) (slice_get actions a)
 
--- names, functions and the actions of the scope's system; all other symbols stand for nothing in a formula
+-- names, functions and the actions of the scope's system; all other symbols stand for nothing in a
+-- formula
 abbrev pub symbol_head : Context → Option (ℕ × Symbol) → Option Head
 symbol_head c None = None
 symbol_head c (Some (at, symbol.Name n)) = option_map (λ k. head.Name n k) (slice_get c.names n)
-symbol_head c (Some (at, symbol.Fun f)) = option_map (λ d. head.Function f d.idx d.args d.result) (slice_get c.funs f)
-symbol_head c (Some (at, symbol.Action s a)) = cond (s == c.system) (action_head a (slice_get c.systems s)) None
+symbol_head c (Some (at, symbol.Fun f)) =
+    option_map (λ d. head.Function f d.idx d.args d.result) (slice_get c.funs f)
+symbol_head c (Some (at, symbol.Action s a)) =
+    cond (s == c.system) (action_head a (slice_get c.systems s)) None
 symbol_head c (Some (at, s)) = None
 
--- The meaning of an identifier behind the binders bs, the outermost first: the innermost binder with the name, else a variable,
+-- The meaning of an identifier behind the binders bs, the outermost first: the innermost binder
+-- with the name, else a variable,
 -- else a schema variable, else a symbol.
 abbrev pub meaning : Context → List Variable → List ℕ → Option Head
 meaning c bs x =

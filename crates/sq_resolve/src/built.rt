@@ -1,17 +1,21 @@
 // Terms that are built within the limits of a formula.
-ghost use Rattle.std.specs.Prelude.{◌≡◌, ◌≤◌, ◌<◌, IfOk, List, MatchBool, length};
-ghost use Rattle.sq_term.specs.Measure.{size as spec_size, depth as spec_depth, indices_depth as spec_indices_depth};
+ghost use Rattle.std.specs.Prelude.{◌≡◌, ◌≤◌, ◌<◌, IfOk, List, [], MatchBool, length};
+ghost use Rattle.sq_term.specs.Measure.{size as spec_size, depth as spec_depth};
+ghost use Rattle.sq_term.specs.Measure.{indices_depth as spec_indices_depth};
 ghost use Rattle.sq_term.specs.Syntax as t;
 ghost use Rattle.sq_term.specs.Syntax.{TermTree};
 ghost use Rattle.sq_term.specs.View.{term_tree, row};
 ghost use Rattle.sq_resolve.specs.Built.{IsBuilt, IsRow, Measures, MeasuresRow};
-ghost use Rattle.sq_resolve.specs.Resolved.{quantifier, quantify as spec_quantify, call1, call2, call3};
+ghost use Rattle.sq_term.specs.Builtins.{builtin_kind};
+ghost use Rattle.sq_term.specs.Formulas as formula;
+ghost use Rattle.sq_term.specs.Symbols.{kind_of};
+ghost use Rattle.sq_resolve.specs.Resolved.{quantifier, quantify as spec_quantify};
 
 use crate::row::{longer_row, no_row};
 use crate::sized::{Built, Row, SizedRow, SizedTerm, discard};
 use sq_ast::Quantifier;
 use sq_base::{NoMemory, Seq, Sort, Text};
-use sq_term::{Idx, Term, depth, size};
+use sq_term::{Builtin, Idx, Term, depth, size};
 use sqlite_items::{Boxed, Items};
 use std::alloc::Global;
 
@@ -50,7 +54,8 @@ fn indices_depth(indices: &Seq<Idx>) -> u32
 
 // The term with its measures, where it is within the limits.
 fn sized(term: Term, nodes: usize, deep: usize) -> Built
-    ensures { (x : TermTree) → term_tree term ≡ x → nodes ≡ spec_size x → deep ≡ spec_depth x → IsBuilt result x }
+    ensures { (x : TermTree) → term_tree term ≡ x → nodes ≡ spec_size x → deep ≡ spec_depth x
+        → IsBuilt result x }
 {
     if is_within(nodes, deep) {
         Built::Within(SizedTerm {
@@ -64,8 +69,9 @@ fn sized(term: Term, nodes: usize, deep: usize) -> Built
 }
 
 /// A function of its arguments.
-pub fn function(f: u32, indices: Seq<Idx>, args: Row) -> Built
-    ensures { (ts : List TermTree) → IsRow args ts → IsBuilt result (t.fun f indices (row ts)) }
+pub fn call(f: u32, indices: Seq<Idx>, args: Row) -> Built
+    ensures { (ts : List TermTree) → IsRow args ts
+        → IsBuilt result (t.fun (kind_of f) indices (row ts)) }
 {
     match args {
         Row::TooLarge => Built::TooLarge,
@@ -73,15 +79,16 @@ pub fn function(f: u32, indices: Seq<Idx>, args: Row) -> Built
             if indices.len() > 65536 {
                 Built::TooLarge
             } else {
-                function_within(f, indices, args)
+                call_within(f, indices, args)
             }
         }
     }
 }
 
-fn function_within(f: u32, indices: Seq<Idx>, args: SizedRow) -> Built
+fn call_within(f: u32, indices: Seq<Idx>, args: SizedRow) -> Built
     requires { length indices ≤ 65536 }
-    ensures { (ts : List TermTree) → MeasuresRow args ts → IsBuilt result (t.fun f indices (row ts)) }
+    ensures { (ts : List TermTree) → MeasuresRow args ts
+        → IsBuilt result (t.fun (kind_of f) indices (row ts)) }
 {
     let nodes = indices.len() + args.nodes as usize + 1;
     let deep = args.depth.max(indices_depth(&indices)) as usize + 1;
@@ -91,7 +98,8 @@ fn function_within(f: u32, indices: Seq<Idx>, args: SizedRow) -> Built
 
 /// The two sides of a difference.
 pub fn difference(alloc: Global, a: Built, b: Built) -> Result<Built, NoMemory>
-    ensures { (x y : TermTree) → IsBuilt a x → IsBuilt b y → IfOk result (λ r. IsBuilt r (t.diff x y)) }
+    ensures { (x y : TermTree) → IsBuilt a x → IsBuilt b y
+        → IfOk result (λ r. IsBuilt r (t.diff x y)) }
 {
     match a {
         Built::TooLarge => {
@@ -109,7 +117,8 @@ pub fn difference(alloc: Global, a: Built, b: Built) -> Result<Built, NoMemory>
 }
 
 fn sides(alloc: Global, a: SizedTerm, b: SizedTerm) -> Result<Built, NoMemory>
-    ensures { (x y : TermTree) → Measures a x → Measures b y → IfOk result (λ r. IsBuilt r (t.diff x y)) }
+    ensures { (x y : TermTree) → Measures a x → Measures b y
+        → IfOk result (λ r. IsBuilt r (t.diff x y)) }
 {
     let nodes = a.nodes as usize + b.nodes as usize + 1;
     let deep = a.depth.max(b.depth) as usize + 1;
@@ -134,7 +143,8 @@ fn quantified_within(
     sort: Sort,
     body: SizedTerm,
 ) -> Result<Built, NoMemory>
-    ensures { (x : TermTree) → Measures body x → IfOk result (λ r. IsBuilt r (quantifier q sort x)) }
+    ensures { (x : TermTree) → Measures body x
+        → IfOk result (λ r. IsBuilt r (quantifier q sort x)) }
 {
     let nodes = body.nodes as usize + 1;
     let deep = body.depth as usize + 1;
@@ -159,7 +169,8 @@ pub fn quantify(
     vars: &[(Text, Sort)],
     body: Built,
 ) -> Result<Built, NoMemory>
-    ensures { (x : TermTree) → IsBuilt body x → IfOk result (λ r. IsBuilt r (spec_quantify q vars.now x)) }
+    ensures { (x : TermTree) → IsBuilt body x
+        → IfOk result (λ r. IsBuilt r (spec_quantify q vars.now x)) }
 {
     let mut built = body;
     let mut left = vars.len();
@@ -178,7 +189,8 @@ pub fn found(
     then: Built,
     other: Built,
 ) -> Result<Built, NoMemory>
-    ensures { (x y z : TermTree) → IsBuilt test x → IsBuilt then y → IsBuilt other z → IfOk result (λ r. IsBuilt r (t.find count x y z)) }
+    ensures { (x y z : TermTree) → IsBuilt test x → IsBuilt then y → IsBuilt other z
+        → IfOk result (λ r. IsBuilt r (t.find count x y z)) }
 {
     match test {
         Built::TooLarge => {
@@ -197,7 +209,8 @@ fn found_within(
     then: Built,
     other: Built,
 ) -> Result<Built, NoMemory>
-    ensures { (x y z : TermTree) → Measures test x → IsBuilt then y → IsBuilt other z → IfOk result (λ r. IsBuilt r (t.find count x y z)) }
+    ensures { (x y z : TermTree) → Measures test x → IsBuilt then y → IsBuilt other z
+        → IfOk result (λ r. IsBuilt r (t.find count x y z)) }
 {
     match then {
         Built::TooLarge => {
@@ -223,7 +236,8 @@ fn branches(
     then: SizedTerm,
     other: SizedTerm,
 ) -> Result<Built, NoMemory>
-    ensures { (x y z : TermTree) → Measures test x → Measures then y → Measures other z → IfOk result (λ r. IsBuilt r (t.find count x y z)) }
+    ensures { (x y z : TermTree) → Measures test x → Measures then y → Measures other z
+        → IfOk result (λ r. IsBuilt r (t.find count x y z)) }
 {
     let nodes = test.nodes as usize + then.nodes as usize + other.nodes as usize + 1;
     let deep = test.depth.max(then.depth).max(other.depth) as usize + 1;
@@ -233,29 +247,46 @@ fn branches(
     Ok(sized(Term::Find(count, test, then, other), nodes, deep))
 }
 
+/// A built-in function of its arguments.
+pub fn call_builtin(alloc: Global, function: Builtin, args: Row) -> Built
+    ensures { (ts : List TermTree) → IsRow args ts
+        → IsBuilt result (t.fun (builtin_kind function) [] (row ts)) }
+{
+    call(function.number(), Seq::new(alloc), args)
+}
+
 /// A function of one argument.
-pub fn call_one(alloc: Global, f: u32, a: Built) -> Result<Built, NoMemory>
-    ensures { (x : TermTree) → IsBuilt a x → IfOk result (λ r. IsBuilt r (call1 f x)) }
+pub fn call_one(alloc: Global, function: Builtin, a: Built) -> Result<Built, NoMemory>
+    ensures { (x : TermTree) → IsBuilt a x
+        → IfOk result (λ r. IsBuilt r (formula.unary (builtin_kind function) x)) }
 {
     let row = longer_row(no_row(alloc), a)?;
-    Ok(function(f, Seq::new(alloc), row))
+    Ok(call_builtin(alloc, function, row))
 }
 
 /// A function of two arguments.
-pub fn call_two(alloc: Global, f: u32, a: Built, b: Built) -> Result<Built, NoMemory>
-    ensures { (x y : TermTree) → IsBuilt a x → IsBuilt b y → IfOk result (λ r. IsBuilt r (call2 f x y)) }
+pub fn call_two(alloc: Global, function: Builtin, a: Built, b: Built) -> Result<Built, NoMemory>
+    ensures { (x y : TermTree) → IsBuilt a x → IsBuilt b y
+        → IfOk result (λ r. IsBuilt r (formula.binary (builtin_kind function) x y)) }
 {
     let first = longer_row(no_row(alloc), a)?;
     let row = longer_row(first, b)?;
-    Ok(function(f, Seq::new(alloc), row))
+    Ok(call_builtin(alloc, function, row))
 }
 
 /// A function of three arguments.
-pub fn call_three(alloc: Global, f: u32, a: Built, b: Built, c: Built) -> Result<Built, NoMemory>
-    ensures { (x y z : TermTree) → IsBuilt a x → IsBuilt b y → IsBuilt c z → IfOk result (λ r. IsBuilt r (call3 f x y z)) }
+pub fn call_three(
+    alloc: Global,
+    function: Builtin,
+    a: Built,
+    b: Built,
+    c: Built,
+) -> Result<Built, NoMemory>
+    ensures { (x y z : TermTree) → IsBuilt a x → IsBuilt b y → IsBuilt c z
+        → IfOk result (λ r. IsBuilt r (formula.ternary (builtin_kind function) x y z)) }
 {
     let first = longer_row(no_row(alloc), a)?;
     let second = longer_row(first, b)?;
     let row = longer_row(second, c)?;
-    Ok(function(f, Seq::new(alloc), row))
+    Ok(call_builtin(alloc, function, row))
 }

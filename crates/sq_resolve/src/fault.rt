@@ -3,11 +3,12 @@ use std::alloc::{AllocError, AllocFailed};
 
 /// Why a formula has no term.
 ///
-/// The fault is that of the first place, in preorder, where no case of the sorts applies. Of several
-/// at one place the one that stands first here counts.
+/// The fault is that of the first place, in preorder, where no case of the sorts applies. Of
+/// several at one place the one that stands first here counts.
 #[derive(Debug, Drop)]
 pub enum ResolveFault {
-    /// The identifier stands for no variable, schema variable, name, function or action of the scope's system.
+    /// The identifier stands for no variable, schema variable, name, function or action of the
+    /// scope's system.
     Unknown(Text),
     /// The identifier, how many arguments it takes, and how many it has here.
     Arity(Text, u32, u32),

@@ -1,6 +1,7 @@
 // What an identifier means.
 ghost use Rattle.std.specs.Prelude.{◌≡◌, ◌+◌, None, option_map, length};
-ghost use Rattle.sq_resolve.specs.Scopes.{context, last_of, last_name, meaning as spec_meaning, head_sort, head_arity, symbol_head};
+ghost use Rattle.sq_resolve.specs.Scopes.{context, last_of, last_name, meaning as spec_meaning};
+ghost use Rattle.sq_resolve.specs.Scopes.{head_sort, head_arity, symbol_head};
 ghost use Rattle.std.specs.Str.{bytes_eq};
 ghost use Rattle.sq_sym.specs.Declarations.{found};
 
@@ -90,7 +91,8 @@ fn last_name(names: &[Text], name: &str) -> Option<usize>
 }
 
 fn symbol_head(r: &Resolver<'_>, name: &str) -> Option<Head>
-    ensures { result ≡ symbol_head (context r.now.scope.now r.now.table.now r.now.env.now) (found name.now r.now.table.now) }
+    ensures { result ≡ symbol_head (context r.now.scope.now r.now.table.now r.now.env.now)
+        (found name.now r.now.table.now) }
 {
     let (_, symbol) = r.table.find(name)?;
     match symbol {
@@ -113,7 +115,9 @@ fn symbol_head(r: &Resolver<'_>, name: &str) -> Option<Head>
 
 /// The meaning of an identifier behind these binders, the outermost first.
 pub fn meaning(r: &Resolver<'_>, binders: &[(Text, Sort)], name: &str) -> Option<Head>
-    ensures { result ≡ spec_meaning (context r.now.scope.now r.now.table.now r.now.env.now) binders.now name.now }
+    ensures { result
+        ≡ spec_meaning
+        (context r.now.scope.now r.now.table.now r.now.env.now) binders.now name.now }
 {
     if let Some((at, sort)) = last_of(binders, name) {
         return Some(Head::Bound(binders.len().saturating_sub(1).saturating_sub(at), sort));

@@ -4,8 +4,12 @@ ghost use Rattle.sq_base.specs.Gives.{Gives};
 ghost use Rattle.sq_ast.specs.View.{formula_tree};
 ghost use Rattle.sq_resolve.specs.Heads.{context_of, moment_of, value_of};
 ghost use Rattle.sq_resolve.specs.Scopes.{meaning as spec_meaning};
-ghost use Rattle.sq_resolve.specs.Resolved.{known as spec_known, judged, as_index, as_moment, as_value, own_sort as spec_own_sort, constant_sort as spec_constant_sort, unary_sort as spec_unary_sort, macro_of as spec_macro_of};
-ghost use Rattle.sq_system.specs.Typing.{macro_sort as spec_macro_sort};
+ghost use Rattle.sq_resolve.specs.Resolved.{known as spec_known, judged, as_index, as_moment};
+ghost use Rattle.sq_resolve.specs.Resolved.{as_value, own_sort as spec_own_sort};
+ghost use Rattle.sq_resolve.specs.Resolved.{constant_sort as spec_constant_sort};
+ghost use Rattle.sq_resolve.specs.Resolved.{unary_sort as spec_unary_sort};
+ghost use Rattle.sq_resolve.specs.Resolved.{macro_of as spec_macro_of};
+ghost use Rattle.sq_typing.specs.Typing.{macro_sort as spec_macro_sort};
 
 use crate::fault::ResolveFault;
 use crate::head::{Head, Resolver, meaning};
@@ -68,7 +72,8 @@ fn known(
     name: &Text,
     args: usize,
 ) -> Result<Head, ResolveFault>
-    ensures { Gives ResolveFault.NoMemory (λ h. h) result (spec_known name.now args (spec_meaning (context_of r.now) binders.now name.now)) }
+    ensures { Gives ResolveFault.NoMemory (λ h. h) result
+        (spec_known name.now args (spec_meaning (context_of r.now) binders.now name.now)) }
 {
     let Some(head) = meaning(r, binders, name.as_str()) else {
         return Err(unknown_fault(r.alloc, name));
@@ -88,7 +93,9 @@ pub fn index_head(
     name: &Text,
     args: usize,
 ) -> Result<Idx, ResolveFault>
-    ensures { Gives ResolveFault.NoMemory (λ i. i) result (judged as_index Sort.Index name.now args (spec_meaning (context_of r.now) binders.now name.now)) }
+    ensures { Gives ResolveFault.NoMemory (λ i. i) result
+        (judged as_index Sort.Index name.now args
+        (spec_meaning (context_of r.now) binders.now name.now)) }
 {
     match known(r, binders, name, args)? {
         Head::Bound(k, Sort::Index) => Ok(Idx::Bound(number(k)?)),
@@ -105,7 +112,9 @@ pub fn moment_head(
     name: &Text,
     args: usize,
 ) -> Result<Moment, ResolveFault>
-    ensures { Gives ResolveFault.NoMemory moment_of result (judged as_moment Sort.Timestamp name.now args (spec_meaning (context_of r.now) binders.now name.now)) }
+    ensures { Gives ResolveFault.NoMemory moment_of result
+        (judged as_moment Sort.Timestamp name.now args
+        (spec_meaning (context_of r.now) binders.now name.now)) }
 {
     match known(r, binders, name, args)? {
         Head::Bound(k, Sort::Timestamp) => Ok(Moment::Time(Ts::Bound(number(k)?))),
@@ -123,7 +132,9 @@ pub fn value_head(
     name: &Text,
     args: usize,
 ) -> Result<Value, ResolveFault>
-    ensures { Gives ResolveFault.NoMemory value_of result (judged (as_value want) want name.now args (spec_meaning (context_of r.now) binders.now name.now)) }
+    ensures { Gives ResolveFault.NoMemory value_of result
+        (judged (as_value want) want name.now args
+        (spec_meaning (context_of r.now) binders.now name.now)) }
 {
     match known(r, binders, name, args)? {
         Head::Schema(k) if want == Sort::Message => Ok(Value::Schema(number(k)?)),

@@ -3,13 +3,18 @@ ghost use Rattle.std.specs.Prelude.{◌≡◌, IfOk, MatchResult, Ok, true, fals
 ghost use Rattle.sq_ast.specs.View.{formula_tree};
 ghost use Rattle.sq_term.specs.Syntax as t;
 ghost use Rattle.sq_term.specs.View.{ts_tree, term_tree};
-ghost use Rattle.sq_system.specs.Typing.{macro_sort as spec_macro_sort};
+ghost use Rattle.sq_typing.specs.Typing.{macro_sort as spec_macro_sort};
 ghost use Rattle.sq_term.specs.TreeEquality.{is_same_sort};
 ghost use Rattle.sq_resolve.specs.Built.{Builds};
 ghost use Rattle.sq_resolve.specs.Heads.{context_of};
-ghost use Rattle.sq_resolve.specs.Resolved.{both, mapped, expect as spec_expect, call0, call1, call2, index_of, time_of, before as spec_before, macro_of as spec_macro_of, constant_sort as spec_constant_sort, constant_number as spec_constant_number};
+ghost use Rattle.sq_resolve.specs.Resolved.{both, mapped, expect as spec_expect, constant_kind};
+ghost use Rattle.sq_resolve.specs.Resolved.{index_of, time_of, before as spec_before};
+ghost use Rattle.sq_resolve.specs.Resolved.{macro_of as spec_macro_of};
+ghost use Rattle.sq_resolve.specs.Resolved.{constant_sort as spec_constant_sort};
+ghost use Rattle.sq_term.specs.Builtins.{builtin_kind};
+ghost use Rattle.sq_term.specs.Formulas as formula;
 
-use crate::built::{function, measured};
+use crate::built::{call_builtin, measured};
 use crate::fault::ResolveFault;
 use crate::head::Resolver;
 use crate::judge::{constant_sort, macro_of, macro_sort};
@@ -17,14 +22,15 @@ use crate::row::no_row;
 use crate::sized::Built;
 use crate::times::{index, time};
 use sq_ast::{Constant, Formula, MacroWord};
-use sq_base::{NoMemory, Seq, Sort, Text};
-use sq_term::{Term, Ts, copy_ts};
-use sqlite_items::Items;
+use sq_base::{NoMemory, Sort, Text};
+use sq_term::formulas::{both, negation};
+use sq_term::{Builtin, Term, Ts, copy_ts};
 use std::alloc::Global;
 
 /// A form of the sort `own` where `want` is wanted.
 pub fn expect(want: Sort, own: Sort) -> Result<(), ResolveFault>
-    ensures { MatchResult result (λ _. is_same_sort want own ≡ true) (λ e. (is_same_sort want own ≡ false) × (e ≡ ResolveFault.SortClash want own)) }
+    ensures { MatchResult result (λ _. is_same_sort want own ≡ true)
+        (λ e. (is_same_sort want own ≡ false) × (e ≡ ResolveFault.SortClash want own)) }
 {
     if want == own {
         Ok(())
@@ -33,21 +39,23 @@ pub fn expect(want: Sort, own: Sort) -> Result<(), ResolveFault>
     }
 }
 
-fn constant_number(k: Constant) -> u32
-    ensures { result ≡ spec_constant_number k }
+fn constant_builtin(k: Constant) -> Builtin
+    ensures { builtin_kind result ≡ constant_kind k }
 {
     match k {
-        Constant::True => 1,
-        Constant::False => 2,
-        Constant::Empty | Constant::Init => 0,
+        Constant::True => Builtin::True,
+        Constant::False => Builtin::False,
+        Constant::Empty | Constant::Init => Builtin::Empty,
     }
 }
 
 pub fn constant(r: &Resolver<'_>, want: Sort, k: Constant) -> Result<Built, ResolveFault>
-    ensures { Builds result (spec_expect want (spec_constant_sort k) (Ok (call0 (spec_constant_number k)))) }
+    ensures { Builds result
+        (spec_expect want (spec_constant_sort k) (Ok (formula.constant (constant_kind k)))) }
 {
     expect(want, constant_sort(k))?;
-    Ok(function(constant_number(k), Seq::new(r.alloc), no_row(r.alloc)))
+    let function = constant_builtin(k);
+    Ok(call_builtin(r.alloc, function, no_row(r.alloc)))
 }
 
 #[tactic(auto, using(sq_term::proofs::Views::tree_rules))]
@@ -59,7 +67,8 @@ pub fn indices_equal(
     b: &Formula,
 ) -> Result<Built, ResolveFault>
     ensures { Builds result (spec_expect want Sort.Boolean
-        (both t.idx_eq (index_of (context_of r.now) binders.now (formula_tree a.now)) (index_of (context_of r.now) binders.now (formula_tree b.now)))) }
+        (both t.idx_eq (index_of (context_of r.now) binders.now (formula_tree a.now))
+        (index_of (context_of r.now) binders.now (formula_tree b.now)))) }
 {
     expect(want, Sort::Boolean)?;
     let left = index(r, binders, a)?;
@@ -76,7 +85,8 @@ pub fn times_equal(
     b: &Formula,
 ) -> Result<Built, ResolveFault>
     ensures { Builds result (spec_expect want Sort.Boolean
-        (both t.ts_eq (time_of (context_of r.now) binders.now (formula_tree a.now)) (time_of (context_of r.now) binders.now (formula_tree b.now)))) }
+        (both t.ts_eq (time_of (context_of r.now) binders.now (formula_tree a.now))
+        (time_of (context_of r.now) binders.now (formula_tree b.now)))) }
 {
     expect(want, Sort::Boolean)?;
     let left = time(r, binders, a)?;
@@ -93,31 +103,13 @@ pub fn less_equal(
     b: &Formula,
 ) -> Result<Built, ResolveFault>
     ensures { Builds result (spec_expect want Sort.Boolean
-        (both t.le (time_of (context_of r.now) binders.now (formula_tree a.now)) (time_of (context_of r.now) binders.now (formula_tree b.now)))) }
+        (both t.le (time_of (context_of r.now) binders.now (formula_tree a.now))
+        (time_of (context_of r.now) binders.now (formula_tree b.now)))) }
 {
     expect(want, Sort::Boolean)?;
     let left = time(r, binders, a)?;
     let right = time(r, binders, b)?;
     Ok(measured(Term::Le(left, right)))
-}
-
-#[tactic(auto, using(sq_term::proofs::Views::open_rules))]
-fn call_of_one(alloc: Global, f: u32, a: Term) -> Result<Term, NoMemory>
-    ensures { IfOk result (λ u. term_tree u ≡ call1 f (term_tree a)) }
-{
-    let mut args = Items::new(alloc);
-    args.push(a)?;
-    Ok(Term::Fun(f, Seq::new(alloc), args))
-}
-
-#[tactic(auto, using(sq_term::proofs::Views::open_rules))]
-fn call_of_two(alloc: Global, f: u32, a: Term, b: Term) -> Result<Term, NoMemory>
-    ensures { IfOk result (λ u. term_tree u ≡ call2 f (term_tree a) (term_tree b)) }
-{
-    let mut args = Items::new(alloc);
-    args.push(a)?;
-    args.push(b)?;
-    Ok(Term::Fun(f, Seq::new(alloc), args))
 }
 
 // `T < S` is `T <= S && not(T = S)`.
@@ -126,8 +118,7 @@ fn before(alloc: Global, left: Ts, right: Ts) -> Result<Term, NoMemory>
     ensures { IfOk result (λ u. term_tree u ≡ spec_before (ts_tree left) (ts_tree right)) }
 {
     let equal = Term::TsEq(copy_ts(alloc, &left)?, copy_ts(alloc, &right)?);
-    let apart = call_of_one(alloc, 3, equal)?;
-    call_of_two(alloc, 4, Term::Le(left, right), apart)
+    both(alloc, Term::Le(left, right), negation(alloc, equal)?)
 }
 
 pub fn less(
@@ -138,7 +129,8 @@ pub fn less(
     b: &Formula,
 ) -> Result<Built, ResolveFault>
     ensures { Builds result (spec_expect want Sort.Boolean
-        (both spec_before (time_of (context_of r.now) binders.now (formula_tree a.now)) (time_of (context_of r.now) binders.now (formula_tree b.now)))) }
+        (both spec_before (time_of (context_of r.now) binders.now (formula_tree a.now))
+        (time_of (context_of r.now) binders.now (formula_tree b.now)))) }
 {
     expect(want, Sort::Boolean)?;
     let left = time(r, binders, a)?;
@@ -154,7 +146,9 @@ pub fn happens(
     want: Sort,
     a: &Formula,
 ) -> Result<Built, ResolveFault>
-    ensures { Builds result (spec_expect want Sort.Boolean (mapped t.happens (time_of (context_of r.now) binders.now (formula_tree a.now)))) }
+    ensures { Builds result
+        (spec_expect want Sort.Boolean
+        (mapped t.happens (time_of (context_of r.now) binders.now (formula_tree a.now)))) }
 {
     expect(want, Sort::Boolean)?;
     let at = time(r, binders, a)?;
@@ -170,7 +164,8 @@ pub fn macro_at(
     a: &Formula,
 ) -> Result<Built, ResolveFault>
     ensures { Builds result (spec_expect want (spec_macro_sort (spec_macro_of word))
-        (mapped (t.macro (spec_macro_of word)) (time_of (context_of r.now) binders.now (formula_tree a.now)))) }
+        (mapped (t.macro (spec_macro_of word))
+        (time_of (context_of r.now) binders.now (formula_tree a.now)))) }
 {
     let what = macro_of(word);
     expect(want, macro_sort(what))?;

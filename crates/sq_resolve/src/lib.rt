@@ -23,6 +23,3 @@ pub use laws::{
 };
 pub use resolving::{resolve, resolve_arg, wanted_sort};
 pub use scope::Scope;
-
-#[cfg(test)]
-mod tests;

@@ -1,7 +1,8 @@
 // The variables that binders add.
 ghost use Rattle.std.specs.Prelude.{◌≡◌, ◌++◌, OnOk};
-ghost use Rattle.sq_resolve.specs.Resolved.{bind_no_message as spec_bind_no_message, group_variables, variables};
-ghost use Rattle.sq_system.specs.Typing.{is_binder_sort as spec_is_binder_sort};
+ghost use Rattle.sq_resolve.specs.Resolved.{bind_no_message as spec_bind_no_message};
+ghost use Rattle.sq_resolve.specs.Resolved.{group_variables, variables};
+ghost use Rattle.sq_term.specs.Pure.{is_binder_sort as spec_is_binder_sort};
 
 use sq_ast::Binders;
 use sq_base::{NoMemory, Seq, Sort, Text};

@@ -3,8 +3,8 @@ ghost use Rattle.std.specs.Prelude.{◌≡◌, [], IfOk, IsTrue};
 ghost use Rattle.sq_base.specs.Gives.{Gives};
 ghost use Rattle.sq_ast.specs.View.{formula_tree};
 ghost use Rattle.sq_term.specs.View.{term_tree};
-ghost use Rattle.sq_system.specs.Functions.{is_value_sort};
-ghost use Rattle.sq_system.specs.Typing.{is_binder_sort};
+ghost use Rattle.sq_typing.specs.Functions.{is_value_sort};
+ghost use Rattle.sq_term.specs.Pure.{is_binder_sort};
 ghost use Rattle.sq_resolve.specs.Scopes.{context};
 ghost use Rattle.sq_resolve.specs.Resolved.{term_of, own_sort as spec_own_sort, wanted_by_itself};
 ghost use Rattle.sq_resolve.specs.Typed.{IsTerm};
@@ -37,8 +37,11 @@ pub fn resolve(
 ) -> Result<Term, ResolveFault>
     requires { IsTrue (is_value_sort want) }
     ensures exact { Gives ResolveFault.NoMemory term_tree result
-        (limited_term (term_of (context scope.now table.now env.now) [] want (formula_tree f.now))) }
-    ensures typed { IfOk result (λ u. IsTerm (context scope.now table.now env.now) [] want (formula_tree f.now) (term_tree u)) }
+        (limited_term
+        (term_of (context scope.now table.now env.now) [] want (formula_tree f.now))) }
+    ensures typed { IfOk result
+        (λ u. IsTerm (context scope.now table.now env.now) [] want (formula_tree f.now)
+        (term_tree u)) }
 {
     let resolver = Resolver {
         alloc,
@@ -88,7 +91,9 @@ pub fn resolve_arg(
 /// The sort at which the term of a `let` and an item of an equivalence are wanted: Boolean where
 /// that is the own sort of the tree, and message otherwise.
 pub fn wanted_sort(alloc: Global, f: &Formula, scope: &Scope, table: &Table, env: &Env) -> Sort
-    ensures { result ≡ wanted_by_itself (spec_own_sort (context scope.now table.now env.now) [] (formula_tree f.now)) }
+    ensures { result
+        ≡ wanted_by_itself
+        (spec_own_sort (context scope.now table.now env.now) [] (formula_tree f.now)) }
 {
     let resolver = Resolver {
         alloc,

@@ -24,7 +24,8 @@ pub fn no_row(alloc: Global) -> Row
 
 /// One more term at the end.
 pub fn longer_row(row: Row, last: Built) -> Result<Row, NoMemory>
-    ensures { (ts : List TermTree) (x : TermTree) → IsRow row ts → IsBuilt last x → IfOk result (λ r. IsRow r (ts ++ x ∷ [])) }
+    ensures { (ts : List TermTree) (x : TermTree) → IsRow row ts → IsBuilt last x
+        → IfOk result (λ r. IsRow r (ts ++ x ∷ [])) }
 {
     match row {
         Row::TooLarge => {
@@ -42,7 +43,8 @@ pub fn longer_row(row: Row, last: Built) -> Result<Row, NoMemory>
 }
 
 fn longer(row: SizedRow, last: SizedTerm) -> Result<Row, NoMemory>
-    ensures { (ts : List TermTree) (x : TermTree) → MeasuresRow row ts → Measures last x → IfOk result (λ r. IsRow r (ts ++ x ∷ [])) }
+    ensures { (ts : List TermTree) (x : TermTree) → MeasuresRow row ts → Measures last x
+        → IfOk result (λ r. IsRow r (ts ++ x ∷ [])) }
 {
     let nodes = row.nodes as usize + last.nodes as usize;
     let deep = row.depth.max(last.depth) as usize;
@@ -53,7 +55,8 @@ fn longer(row: SizedRow, last: SizedTerm) -> Result<Row, NoMemory>
 
 // The terms with their measures, where they are within the limits.
 fn sized_row(terms: Vec<Term>, nodes: usize, deep: usize) -> Row
-    ensures { (ts : List TermTree) → map term_tree terms.items ≡ ts → nodes ≡ sizes (row ts) → deep ≡ depths (row ts) → IsRow result ts }
+    ensures { (ts : List TermTree) → map term_tree terms.items ≡ ts → nodes ≡ sizes (row ts)
+        → deep ≡ depths (row ts) → IsRow result ts }
 {
     if is_within(nodes, deep) {
         Row::Within(SizedRow {

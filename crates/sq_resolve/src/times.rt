@@ -5,7 +5,8 @@ ghost use Rattle.sq_ast.specs.View.{formula_tree, formula_trees};
 ghost use Rattle.sq_term.specs.View.{ts_tree};
 ghost use Rattle.sq_resolve.specs.Heads.{context_of};
 ghost use Rattle.sq_resolve.specs.Scopes.{meaning};
-ghost use Rattle.sq_resolve.specs.Resolved.{index_of, indices_of, time_of, judged, as_moment, at_indices as spec_at_indices};
+ghost use Rattle.sq_resolve.specs.Resolved.{index_of, indices_of, time_of, judged, as_moment};
+ghost use Rattle.sq_resolve.specs.Resolved.{at_indices as spec_at_indices};
 
 use crate::fault::ResolveFault;
 use crate::head::Resolver;
@@ -18,7 +19,8 @@ use sqlite_items::Boxed;
 
 #[tactic(auto, using(crate::proofs::Rows::count_formula_trees))]
 pub fn index(r: &Resolver<'_>, binders: &[(Text, Sort)], f: &Formula) -> Result<Idx, ResolveFault>
-    ensures { Gives ResolveFault.NoMemory (λ i. i) result (index_of (context_of r.now) binders.now (formula_tree f.now)) }
+    ensures { Gives ResolveFault.NoMemory (λ i. i) result
+        (index_of (context_of r.now) binders.now (formula_tree f.now)) }
 {
     match shape_of(f) {
         Shape::Group(a) => index(r, binders, a),
@@ -33,7 +35,8 @@ pub fn indices(
     binders: &[(Text, Sort)],
     args: &[Formula],
 ) -> Result<Seq<Idx>, ResolveFault>
-    ensures { Gives ResolveFault.NoMemory (λ is. is) result (indices_of (context_of r.now) binders.now (formula_trees args.now)) }
+    ensures { Gives ResolveFault.NoMemory (λ is. is) result
+        (indices_of (context_of r.now) binders.now (formula_trees args.now)) }
 {
     let mut found = Seq::new(r.alloc);
     for arg in args {
@@ -51,7 +54,10 @@ fn at_indices(
     args: &[Formula],
 ) -> Result<Ts, ResolveFault>
     ensures { Gives ResolveFault.NoMemory ts_tree result
-        (spec_at_indices (judged as_moment Sort.Timestamp name.now (length args.now) (meaning (context_of r.now) binders.now name.now)) (indices_of (context_of r.now) binders.now (formula_trees args.now))) }
+        (spec_at_indices
+        (judged as_moment Sort.Timestamp name.now (length args.now)
+        (meaning (context_of r.now) binders.now name.now))
+        (indices_of (context_of r.now) binders.now (formula_trees args.now))) }
 {
     match moment_head(r, binders, name, args.len())? {
         Moment::Time(t) => Ok(t),
@@ -64,7 +70,8 @@ fn at_indices(
 
 #[tactic(auto, using(sq_term::proofs::Views::tree_rules, crate::proofs::Rows::count_formula_trees))]
 pub fn time(r: &Resolver<'_>, binders: &[(Text, Sort)], f: &Formula) -> Result<Ts, ResolveFault>
-    ensures { Gives ResolveFault.NoMemory ts_tree result (time_of (context_of r.now) binders.now (formula_tree f.now)) }
+    ensures { Gives ResolveFault.NoMemory ts_tree result
+        (time_of (context_of r.now) binders.now (formula_tree f.now)) }
 {
     match shape_of(f) {
         Shape::Group(a) => time(r, binders, a),

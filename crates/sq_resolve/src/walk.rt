@@ -9,11 +9,15 @@ ghost use Rattle.sq_resolve.specs.Below.{WalksBelow};
 ghost use Rattle.sq_resolve.specs.Built.{Builds, BuildsRow};
 ghost use Rattle.sq_resolve.specs.Heads.{context_of};
 ghost use Rattle.sq_resolve.specs.Shapes.{shape_tree};
-ghost use Rattle.sq_resolve.specs.Resolved.{both, three, mapped, expect as spec_expect, call1 as spec_call1, call2 as spec_call2, call3 as spec_call3, term_of, terms_of, with_binders, quantify as spec_quantify, variables, group_variables, equation, application, function_term, arguments_of};
+ghost use Rattle.sq_resolve.specs.Resolved.{both, three, mapped, expect as spec_expect, term_of};
+ghost use Rattle.sq_resolve.specs.Resolved.{terms_of, with_binders, quantify as spec_quantify};
+ghost use Rattle.sq_resolve.specs.Resolved.{variables, group_variables, equation, application};
+ghost use Rattle.sq_resolve.specs.Resolved.{function_term, arguments_of};
+ghost use Rattle.sq_term.specs.Builtins.{builtin_kind};
+ghost use Rattle.sq_term.specs.Formulas as formula;
+ghost use Rattle.sq_term.specs.Symbols.{kind_of};
 
-use crate::built::{
-    call_one, call_three, call_two, difference, found, function, measured, quantify,
-};
+use crate::built::{call, call_one, call_three, call_two, difference, found, measured, quantify};
 use crate::fault::ResolveFault;
 use crate::head::Resolver;
 use crate::judge::{Value, number, own_sort, value_head};
@@ -27,21 +31,21 @@ use crate::sized::{Built, Row};
 use crate::times::indices;
 use sq_ast::{Binary, Binders, Formula, Quantifier, Unary};
 use sq_base::{Seq, Sort, Text};
-use sq_term::Term;
+use sq_term::{Builtin, Term};
 
 /// The variables of the binders around a place, the outermost first.
 pub type Around = Seq<(Text, Sort)>;
 
-/// A built-in function: its number, the sort of its result, and the sort of its arguments.
+/// A built-in function, the sort of its result, and the sort of its arguments.
 #[derive(Clone, Copy)]
 pub struct Call {
-    pub function: u32,
+    pub function: Builtin,
     pub own: Sort,
     pub part: Sort,
 }
 
-fn connective(function: u32) -> Call
-    ensures number { result.function ≡ function }
+fn connective(function: Builtin) -> Call
+    ensures function { result.function ≡ function }
     ensures own { result.own ≡ Sort.Boolean }
     ensures part { result.part ≡ Sort.Boolean }
 {
@@ -52,8 +56,8 @@ fn connective(function: u32) -> Call
     }
 }
 
-fn of_messages(function: u32, own: Sort) -> Call
-    ensures number { result.function ≡ function }
+fn of_messages(function: Builtin, own: Sort) -> Call
+    ensures function { result.function ≡ function }
     ensures own { result.own ≡ own }
     ensures part { result.part ≡ Sort.Message }
 {
@@ -65,12 +69,12 @@ fn of_messages(function: u32, own: Sort) -> Call
 }
 
 fn of_boolean() -> Call
-    ensures number { result.function ≡ 12 }
+    ensures function { result.function ≡ Builtin.OfBool }
     ensures own { result.own ≡ Sort.Message }
     ensures part { result.part ≡ Sort.Boolean }
 {
     Call {
-        function: 12,
+        function: Builtin::OfBool,
         own: Sort::Message,
         part: Sort::Boolean,
     }
@@ -84,7 +88,8 @@ pub fn resolve_term(
     want: Sort,
     f: &Formula,
 ) -> Result<Built, ResolveFault>
-    ensures builds { Builds result (term_of (context_of r.now) around.old want (formula_tree f.now)) }
+    ensures builds { Builds result
+        (term_of (context_of r.now) around.old want (formula_tree f.now)) }
     ensures kept { OnOk result (around.new ≡ around.old) }
 {
     // Both are lent again, since the node lives shorter than they do.
@@ -106,33 +111,46 @@ pub struct Node<'a, F> {
 
 impl<F: Fn(&Resolver<'_>, &mut Around, Sort, &Formula) -> Result<Built, ResolveFault>> Node<'_, F> {
     fn part(&self, around: &mut Around, want: Sort, f: &Formula) -> Result<Built, ResolveFault>
-        requires walks { WalksBelow (height (formula_tree self.now.whole.now)) (F.pre self.now.walk) (F.post self.now.walk) }
+        requires walks { WalksBelow (height (formula_tree self.now.whole.now)) (F.pre self.now.walk)
+            (F.post self.now.walk) }
         requires lower { height (formula_tree f.now) < height (formula_tree self.now.whole.now) }
-        ensures builds { Builds result (term_of (context_of self.now.resolver.now) around.old want (formula_tree f.now)) }
+        ensures builds { Builds result
+            (term_of (context_of self.now.resolver.now) around.old want (formula_tree f.now)) }
         ensures kept { OnOk result (around.new ≡ around.old) }
     {
         (self.walk)(self.resolver, around, want, f)
     }
 
     fn resolve(&self, around: &mut Around, want: Sort) -> Result<Built, ResolveFault>
-        requires { WalksBelow (height (formula_tree self.now.whole.now)) (F.pre self.now.walk) (F.post self.now.walk) }
-        ensures builds { Builds result (term_of (context_of self.now.resolver.now) around.old want (formula_tree self.now.whole.now)) }
+        requires { WalksBelow (height (formula_tree self.now.whole.now)) (F.pre self.now.walk)
+            (F.post self.now.walk) }
+        ensures builds { Builds result
+            (term_of (context_of self.now.resolver.now) around.old want
+            (formula_tree self.now.whole.now)) }
         ensures kept { OnOk result (around.new ≡ around.old) }
     {
         self.form(around, want, shape_of(self.whole))
     }
 
     fn form(&self, around: &mut Around, want: Sort, shape: Shape<'_>) -> Result<Built, ResolveFault>
-        requires walks { WalksBelow (height (formula_tree self.now.whole.now)) (F.pre self.now.walk) (F.post self.now.walk) }
+        requires walks { WalksBelow (height (formula_tree self.now.whole.now)) (F.pre self.now.walk)
+            (F.post self.now.walk) }
         requires lower { height (shape_tree shape) ≤ height (formula_tree self.now.whole.now) }
-        ensures builds { Builds result (term_of (context_of self.now.resolver.now) around.old want (shape_tree shape.entry)) }
+        ensures builds { Builds result
+            (term_of (context_of self.now.resolver.now) around.old want (shape_tree shape.entry)) }
         ensures kept { OnOk result (around.new ≡ around.old) }
     {
         match shape {
             Shape::Quantified(q, groups, a) => self.quantified(around, want, q, groups, a),
             Shape::Binary(o, a, b) => self.binary(around, want, o, a, b),
             Shape::Group(a) => self.part(around, want, a),
-            Shape::Pair(a, b) => self.with_two(around, want, of_messages(9, Sort::Message), a, b),
+            Shape::Pair(a, b) => self.with_two(
+                around,
+                want,
+                of_messages(Builtin::Pair, Sort::Message),
+                a,
+                b,
+            ),
             Shape::Constant(k) => constant(self.resolver, want, k),
             Shape::Conditional(a, b, c) => self.conditional(around, want, a, b, c),
             Shape::Find(names, a, b, c) => self.search(around, want, names, a, b, c),
@@ -152,16 +170,19 @@ impl<F: Fn(&Resolver<'_>, &mut Around, Sort, &Formula) -> Result<Built, ResolveF
         a: &Formula,
         b: &Formula,
     ) -> Result<Built, ResolveFault>
-        requires walks { WalksBelow (height (formula_tree self.now.whole.now)) (F.pre self.now.walk) (F.post self.now.walk) }
+        requires walks { WalksBelow (height (formula_tree self.now.whole.now)) (F.pre self.now.walk)
+            (F.post self.now.walk) }
         requires left { height (formula_tree a.now) < height (formula_tree self.now.whole.now) }
         requires right { height (formula_tree b.now) < height (formula_tree self.now.whole.now) }
-        ensures builds { Builds result (term_of (context_of self.now.resolver.now) around.old want (tree.binary o (formula_tree a.now) (formula_tree b.now))) }
+        ensures builds { Builds result
+            (term_of (context_of self.now.resolver.now) around.old want
+            (tree.binary o (formula_tree a.now) (formula_tree b.now))) }
         ensures kept { OnOk result (around.new ≡ around.old) }
     {
         match o {
-            Binary::Implies => self.with_two(around, want, connective(6), a, b),
-            Binary::Or => self.with_two(around, want, connective(5), a, b),
-            Binary::And => self.with_two(around, want, connective(4), a, b),
+            Binary::Implies => self.with_two(around, want, connective(Builtin::Implies), a, b),
+            Binary::Or => self.with_two(around, want, connective(Builtin::Or), a, b),
+            Binary::And => self.with_two(around, want, connective(Builtin::And), a, b),
             Binary::Equal => self.equal(around, want, a, b),
             Binary::NotEqual => self.unequal(around, want, a, b),
             Binary::LessEqual => less_equal(self.resolver, around.as_slice(), want, a, b),
@@ -176,15 +197,18 @@ impl<F: Fn(&Resolver<'_>, &mut Around, Sort, &Formula) -> Result<Built, ResolveF
         u: Unary,
         a: &Formula,
     ) -> Result<Built, ResolveFault>
-        requires walks { WalksBelow (height (formula_tree self.now.whole.now)) (F.pre self.now.walk) (F.post self.now.walk) }
+        requires walks { WalksBelow (height (formula_tree self.now.whole.now)) (F.pre self.now.walk)
+            (F.post self.now.walk) }
         requires lower { height (formula_tree a.now) < height (formula_tree self.now.whole.now) }
-        ensures builds { Builds result (term_of (context_of self.now.resolver.now) around.old want (tree.unary u (formula_tree a.now))) }
+        ensures builds { Builds result
+            (term_of (context_of self.now.resolver.now) around.old want
+            (tree.unary u (formula_tree a.now))) }
         ensures kept { OnOk result (around.new ≡ around.old) }
     {
         match u {
-            Unary::Not => self.with_one(around, want, connective(3), a),
-            Unary::Fst => self.with_one(around, want, of_messages(10, Sort::Message), a),
-            Unary::Snd => self.with_one(around, want, of_messages(11, Sort::Message), a),
+            Unary::Not => self.with_one(around, want, connective(Builtin::Not), a),
+            Unary::Fst => self.with_one(around, want, of_messages(Builtin::Fst, Sort::Message), a),
+            Unary::Snd => self.with_one(around, want, of_messages(Builtin::Snd, Sort::Message), a),
             Unary::OfBool => self.with_one(around, want, of_boolean(), a),
             Unary::Happens => happens(self.resolver, around.as_slice(), want, a),
             Unary::Pred => Err(ResolveFault::SortClash(want, Sort::Timestamp)),
@@ -198,9 +222,14 @@ impl<F: Fn(&Resolver<'_>, &mut Around, Sort, &Formula) -> Result<Built, ResolveF
         call: Call,
         a: &Formula,
     ) -> Result<Built, ResolveFault>
-        requires walks { WalksBelow (height (formula_tree self.now.whole.now)) (F.pre self.now.walk) (F.post self.now.walk) }
+        requires walks { WalksBelow (height (formula_tree self.now.whole.now)) (F.pre self.now.walk)
+            (F.post self.now.walk) }
         requires lower { height (formula_tree a.now) < height (formula_tree self.now.whole.now) }
-        ensures builds { Builds result (spec_expect want call.own (mapped (spec_call1 call.function) (term_of (context_of self.now.resolver.now) around.old call.part (formula_tree a.now)))) }
+        ensures builds { Builds result
+            (spec_expect want call.own
+            (mapped (formula.unary (builtin_kind call.function))
+            (term_of (context_of self.now.resolver.now) around.old call.part
+            (formula_tree a.now)))) }
         ensures kept { OnOk result (around.new ≡ around.old) }
     {
         expect(want, call.own)?;
@@ -216,11 +245,15 @@ impl<F: Fn(&Resolver<'_>, &mut Around, Sort, &Formula) -> Result<Built, ResolveF
         a: &Formula,
         b: &Formula,
     ) -> Result<Built, ResolveFault>
-        requires walks { WalksBelow (height (formula_tree self.now.whole.now)) (F.pre self.now.walk) (F.post self.now.walk) }
+        requires walks { WalksBelow (height (formula_tree self.now.whole.now)) (F.pre self.now.walk)
+            (F.post self.now.walk) }
         requires left { height (formula_tree a.now) < height (formula_tree self.now.whole.now) }
         requires right { height (formula_tree b.now) < height (formula_tree self.now.whole.now) }
-        ensures builds { Builds result (spec_expect want call.own (both (spec_call2 call.function)
-            (term_of (context_of self.now.resolver.now) around.old call.part (formula_tree a.now)) (term_of (context_of self.now.resolver.now) around.old call.part (formula_tree b.now)))) }
+        ensures builds { Builds result
+            (spec_expect want call.own (both (formula.binary (builtin_kind call.function))
+            (term_of (context_of self.now.resolver.now) around.old call.part (formula_tree a.now))
+            (term_of (context_of self.now.resolver.now) around.old call.part
+            (formula_tree b.now)))) }
         ensures kept { OnOk result (around.new ≡ around.old) }
     {
         expect(want, call.own)?;
@@ -236,10 +269,13 @@ impl<F: Fn(&Resolver<'_>, &mut Around, Sort, &Formula) -> Result<Built, ResolveF
         a: &Formula,
         b: &Formula,
     ) -> Result<Built, ResolveFault>
-        requires walks { WalksBelow (height (formula_tree self.now.whole.now)) (F.pre self.now.walk) (F.post self.now.walk) }
+        requires walks { WalksBelow (height (formula_tree self.now.whole.now)) (F.pre self.now.walk)
+            (F.post self.now.walk) }
         requires left { height (formula_tree a.now) < height (formula_tree self.now.whole.now) }
         requires right { height (formula_tree b.now) < height (formula_tree self.now.whole.now) }
-        ensures builds { Builds result (equation (context_of self.now.resolver.now) around.old want (formula_tree a.now) (formula_tree b.now)) }
+        ensures builds { Builds result
+            (equation (context_of self.now.resolver.now) around.old want (formula_tree a.now)
+            (formula_tree b.now)) }
         ensures kept { OnOk result (around.new ≡ around.old) }
     {
         match own_sort(self.resolver, around.as_slice(), a) {
@@ -248,7 +284,7 @@ impl<F: Fn(&Resolver<'_>, &mut Around, Sort, &Formula) -> Result<Built, ResolveF
             Sort::Message | Sort::Boolean => self.with_two(
                 around,
                 want,
-                of_messages(7, Sort::Boolean),
+                of_messages(Builtin::Eq, Sort::Boolean),
                 a,
                 b,
             ),
@@ -262,14 +298,18 @@ impl<F: Fn(&Resolver<'_>, &mut Around, Sort, &Formula) -> Result<Built, ResolveF
         a: &Formula,
         b: &Formula,
     ) -> Result<Built, ResolveFault>
-        requires walks { WalksBelow (height (formula_tree self.now.whole.now)) (F.pre self.now.walk) (F.post self.now.walk) }
+        requires walks { WalksBelow (height (formula_tree self.now.whole.now)) (F.pre self.now.walk)
+            (F.post self.now.walk) }
         requires left { height (formula_tree a.now) < height (formula_tree self.now.whole.now) }
         requires right { height (formula_tree b.now) < height (formula_tree self.now.whole.now) }
-        ensures builds { Builds result (mapped (spec_call1 3) (equation (context_of self.now.resolver.now) around.old want (formula_tree a.now) (formula_tree b.now))) }
+        ensures builds { Builds result
+            (mapped formula.negation
+            (equation (context_of self.now.resolver.now) around.old want (formula_tree a.now)
+            (formula_tree b.now))) }
         ensures kept { OnOk result (around.new ≡ around.old) }
     {
         let whole = self.equal(around, want, a, b)?;
-        Ok(call_one(self.resolver.alloc, 3, whole)?)
+        Ok(call_one(self.resolver.alloc, Builtin::Not, whole)?)
     }
 
     fn sides(
@@ -279,10 +319,14 @@ impl<F: Fn(&Resolver<'_>, &mut Around, Sort, &Formula) -> Result<Built, ResolveF
         a: &Formula,
         b: &Formula,
     ) -> Result<Built, ResolveFault>
-        requires walks { WalksBelow (height (formula_tree self.now.whole.now)) (F.pre self.now.walk) (F.post self.now.walk) }
+        requires walks { WalksBelow (height (formula_tree self.now.whole.now)) (F.pre self.now.walk)
+            (F.post self.now.walk) }
         requires left { height (formula_tree a.now) < height (formula_tree self.now.whole.now) }
         requires right { height (formula_tree b.now) < height (formula_tree self.now.whole.now) }
-        ensures builds { Builds result (both t.diff (term_of (context_of self.now.resolver.now) around.old want (formula_tree a.now)) (term_of (context_of self.now.resolver.now) around.old want (formula_tree b.now))) }
+        ensures builds { Builds result
+            (both t.diff
+            (term_of (context_of self.now.resolver.now) around.old want (formula_tree a.now))
+            (term_of (context_of self.now.resolver.now) around.old want (formula_tree b.now))) }
         ensures kept { OnOk result (around.new ≡ around.old) }
     {
         let a = self.part(around, want, a)?;
@@ -298,21 +342,25 @@ impl<F: Fn(&Resolver<'_>, &mut Around, Sort, &Formula) -> Result<Built, ResolveF
         b: &Formula,
         c: &Formula,
     ) -> Result<Built, ResolveFault>
-        requires walks { WalksBelow (height (formula_tree self.now.whole.now)) (F.pre self.now.walk) (F.post self.now.walk) }
+        requires walks { WalksBelow (height (formula_tree self.now.whole.now)) (F.pre self.now.walk)
+            (F.post self.now.walk) }
         requires test { height (formula_tree a.now) < height (formula_tree self.now.whole.now) }
         requires then { height (formula_tree b.now) < height (formula_tree self.now.whole.now) }
         requires other { height (formula_tree c.now) < height (formula_tree self.now.whole.now) }
-        ensures builds { Builds result (spec_expect want Sort.Message (three (spec_call3 8)
-            (term_of (context_of self.now.resolver.now) around.old Sort.Boolean (formula_tree a.now))
-            (term_of (context_of self.now.resolver.now) around.old Sort.Message (formula_tree b.now))
-            (term_of (context_of self.now.resolver.now) around.old Sort.Message (formula_tree c.now)))) }
+        ensures builds { Builds result (spec_expect want Sort.Message (three formula.conditional
+            (term_of (context_of self.now.resolver.now) around.old Sort.Boolean
+            (formula_tree a.now))
+            (term_of (context_of self.now.resolver.now) around.old Sort.Message
+            (formula_tree b.now))
+            (term_of (context_of self.now.resolver.now) around.old Sort.Message
+            (formula_tree c.now)))) }
         ensures kept { OnOk result (around.new ≡ around.old) }
     {
         expect(want, Sort::Message)?;
         let test = self.part(around, Sort::Boolean, a)?;
         let then = self.part(around, Sort::Message, b)?;
         let other = self.part(around, Sort::Message, c)?;
-        Ok(call_three(self.resolver.alloc, 8, test, then, other)?)
+        Ok(call_three(self.resolver.alloc, Builtin::Ite, test, then, other)?)
     }
 
     fn search(
@@ -324,14 +372,19 @@ impl<F: Fn(&Resolver<'_>, &mut Around, Sort, &Formula) -> Result<Built, ResolveF
         b: &Formula,
         c: &Formula,
     ) -> Result<Built, ResolveFault>
-        requires walks { WalksBelow (height (formula_tree self.now.whole.now)) (F.pre self.now.walk) (F.post self.now.walk) }
+        requires walks { WalksBelow (height (formula_tree self.now.whole.now)) (F.pre self.now.walk)
+            (F.post self.now.walk) }
         requires test { height (formula_tree a.now) < height (formula_tree self.now.whole.now) }
         requires then { height (formula_tree b.now) < height (formula_tree self.now.whole.now) }
         requires other { height (formula_tree c.now) < height (formula_tree self.now.whole.now) }
-        ensures builds { Builds result (spec_expect want Sort.Message (three (t.find (length names.now))
-            (term_of (context_of self.now.resolver.now) (around.old ++ group_variables Sort.Index names.now) Sort.Boolean (formula_tree a.now))
-            (term_of (context_of self.now.resolver.now) (around.old ++ group_variables Sort.Index names.now) Sort.Message (formula_tree b.now))
-            (term_of (context_of self.now.resolver.now) around.old Sort.Message (formula_tree c.now)))) }
+        ensures builds { Builds result
+            (spec_expect want Sort.Message (three (t.find (length names.now))
+            (term_of (context_of self.now.resolver.now)
+            (around.old ++ group_variables Sort.Index names.now) Sort.Boolean (formula_tree a.now))
+            (term_of (context_of self.now.resolver.now)
+            (around.old ++ group_variables Sort.Index names.now) Sort.Message (formula_tree b.now))
+            (term_of (context_of self.now.resolver.now) around.old Sort.Message
+            (formula_tree c.now)))) }
         ensures kept { OnOk result (around.new ≡ around.old) }
     {
         expect(want, Sort::Message)?;
@@ -353,10 +406,14 @@ impl<F: Fn(&Resolver<'_>, &mut Around, Sort, &Formula) -> Result<Built, ResolveF
         groups: &[Binders],
         a: &Formula,
     ) -> Result<Built, ResolveFault>
-        requires walks { WalksBelow (height (formula_tree self.now.whole.now)) (F.pre self.now.walk) (F.post self.now.walk) }
+        requires walks { WalksBelow (height (formula_tree self.now.whole.now)) (F.pre self.now.walk)
+            (F.post self.now.walk) }
         requires lower { height (formula_tree a.now) < height (formula_tree self.now.whole.now) }
-        ensures builds { Builds result (spec_expect want Sort.Boolean (with_binders groups.now (mapped (spec_quantify q (variables groups.now))
-            (term_of (context_of self.now.resolver.now) (around.old ++ variables groups.now) Sort.Boolean (formula_tree a.now))))) }
+        ensures builds { Builds result
+            (spec_expect want Sort.Boolean
+            (with_binders groups.now (mapped (spec_quantify q (variables groups.now))
+            (term_of (context_of self.now.resolver.now)
+            (around.old ++ variables groups.now) Sort.Boolean (formula_tree a.now))))) }
         ensures kept { OnOk result (around.new ≡ around.old) }
     {
         expect(want, Sort::Boolean)?;
@@ -380,9 +437,13 @@ impl<F: Fn(&Resolver<'_>, &mut Around, Sort, &Formula) -> Result<Built, ResolveF
         name: &Text,
         args: &[Formula],
     ) -> Result<Built, ResolveFault>
-        requires walks { WalksBelow (height (formula_tree self.now.whole.now)) (F.pre self.now.walk) (F.post self.now.walk) }
-        requires lower { heights (formula_trees args.now) < height (formula_tree self.now.whole.now) }
-        ensures builds { Builds result (application (context_of self.now.resolver.now) around.old want name.now (length args.now) (formula_trees args.now)) }
+        requires walks { WalksBelow (height (formula_tree self.now.whole.now)) (F.pre self.now.walk)
+            (F.post self.now.walk) }
+        requires lower { heights (formula_trees args.now) < height
+            (formula_tree self.now.whole.now) }
+        ensures builds { Builds result
+            (application (context_of self.now.resolver.now) around.old want name.now
+            (length args.now) (formula_trees args.now)) }
         ensures kept { OnOk result (around.new ≡ around.old) }
     {
         match value_head(self.resolver, around.as_slice(), want, name, args.len())? {
@@ -403,21 +464,29 @@ impl<F: Fn(&Resolver<'_>, &mut Around, Sort, &Formula) -> Result<Built, ResolveF
         count: u32,
         args: &[Formula],
     ) -> Result<Built, ResolveFault>
-        requires walks { WalksBelow (height (formula_tree self.now.whole.now)) (F.pre self.now.walk) (F.post self.now.walk) }
-        requires lower { heights (formula_trees args.now) < height (formula_tree self.now.whole.now) }
-        ensures builds { Builds result (mapped (function_term f) (arguments_of (context_of self.now.resolver.now) around.old count (formula_trees args.now))) }
+        requires walks { WalksBelow (height (formula_tree self.now.whole.now)) (F.pre self.now.walk)
+            (F.post self.now.walk) }
+        requires lower { heights (formula_trees args.now) < height
+            (formula_tree self.now.whole.now) }
+        ensures builds { Builds result
+            (mapped (function_term (kind_of f))
+            (arguments_of (context_of self.now.resolver.now) around.old count
+            (formula_trees args.now))) }
         ensures kept { OnOk result (around.new ≡ around.old) }
     {
         let (front, back) = args.split_at(args.len().min(count as usize));
         let is = indices(self.resolver, around.as_slice(), front)?;
         let row = self.terms(around, back)?;
-        Ok(function(f, is, row))
+        Ok(call(f, is, row))
     }
 
     fn terms(&self, around: &mut Around, args: &[Formula]) -> Result<Row, ResolveFault>
-        requires walks { WalksBelow (height (formula_tree self.now.whole.now)) (F.pre self.now.walk) (F.post self.now.walk) }
-        requires lower { heights (formula_trees args.now) < height (formula_tree self.now.whole.now) }
-        ensures builds { BuildsRow result (terms_of (context_of self.now.resolver.now) around.old (formula_trees args.now)) }
+        requires walks { WalksBelow (height (formula_tree self.now.whole.now)) (F.pre self.now.walk)
+            (F.post self.now.walk) }
+        requires lower { heights (formula_trees args.now) < height
+            (formula_tree self.now.whole.now) }
+        ensures builds { BuildsRow result
+            (terms_of (context_of self.now.resolver.now) around.old (formula_trees args.now)) }
         ensures kept { OnOk result (around.new ≡ around.old) }
     {
         let mut row = no_row(self.resolver.alloc);

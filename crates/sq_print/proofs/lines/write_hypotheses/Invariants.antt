@@ -7,5 +7,8 @@ use Rattle.sq_print.proofs.lines.write_hypotheses.Given as goal
 
 abbrev pub invariant-loop-k : goal.invariant-loop-k
 invariant-loop-k l =
-    (spec.wrote_hypotheses (names_of l.scope) l.labels l.k l.out (map term_tree (drop l.k l.hypotheses)) ≡ spec.wrote_hypotheses (names_of l.scope) l.labels 0 l.initial.out (map term_tree l.hypotheses))
+    (spec.wrote_hypotheses (names_of l.scope) l.labels l.k l.out
+    (map term_tree (drop l.k l.hypotheses))
+    ≡ spec.wrote_hypotheses (names_of l.scope) l.labels 0 l.initial.out
+    (map term_tree l.hypotheses))
     × StandsAlone (names_of l.scope) l.binders

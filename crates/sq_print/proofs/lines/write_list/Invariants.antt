@@ -9,6 +9,7 @@ use Rattle.sq_print.proofs.lines.write_list.Given as goal
 
 abbrev pub invariant-loop-item : goal.invariant-loop-item
 invariant-loop-item l =
-    (spec.wrote_list (names_of l.scope) l.before l.out (map item_of (drop l.item-index l.items)) ≡ spec.wrote_list (names_of l.scope) [] l.initial.out (map item_of l.items))
+    (spec.wrote_list (names_of l.scope) l.before l.out (map item_of (drop l.item-index l.items))
+    ≡ spec.wrote_list (names_of l.scope) [] l.initial.out (map item_of l.items))
     × StandsAlone (names_of l.scope) l.binders
     × shadow (Utf8 l.before)

@@ -9,7 +9,14 @@ pub returns-clause-text : goal.returns-clause-text
 returns-clause-text c =
     let ns = names_of c.args.scope.now in
     let tree = term_tree c.args.t.now in
-    c.in_ok-write.ensures.text ∙ (ap (λ a. wrote ns a c.args.out.now tree) c.requires.none ∙ behind ns [] c.args.out.now tree)
+    c.in_ok-write.ensures.text
+    ∙ (ap (λ a. wrote ns a c.args.out.now tree) c.requires.none
+    ∙ behind ns [] c.args.out.now tree)
 
 pub returns-clause-kept : goal.returns-clause-kept
-returns-clause-kept c = record { none = c.in_ok-write.ensures.kept.around ∙ c.requires.none; is_around = c.in_ok-write.ensures.kept.is_around }
+returns-clause-kept c =
+    record {
+      none = c.in_ok-write.ensures.kept.around
+          ∙ c.requires.none;
+      is_around = c.in_ok-write.ensures.kept.is_around;
+    }

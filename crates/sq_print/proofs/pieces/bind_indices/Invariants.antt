@@ -6,5 +6,7 @@ use Rattle.sq_print.proofs.pieces.bind_indices.Given as goal
 
 abbrev pub invariant-loop-turn : goal.invariant-loop-turn
 invariant-loop-turn l =
-    (l.binders.around ++ names.bound_names (names_of l.scope) l.binders.around (l.count - l.turn) ≡ l.initial.binders.around ++ names.bound_names (names_of l.scope) l.initial.binders.around l.count)
+    (l.binders.around ++ names.bound_names (names_of l.scope) l.binders.around (l.count - l.turn)
+    ≡ l.initial.binders.around ++ names.bound_names
+    (names_of l.scope) l.initial.binders.around l.count)
     × IsAround (names_of l.scope) l.binders

@@ -8,4 +8,5 @@ returns-then-not-is_empty-2 c =
     let test = c.is_empty-2.ensures in
     let other = c.if-not-is_empty-2.true in
     let some : 0 < length c.args.arguments.now = grind (arith, nat_tests, test, other) in
-    rw (ended_open c.args.indices.now c.args.arguments.now c.args.out.now some) c.push_str-then-not-is_empty-2.ensures.ok
+    rw (ended_open c.args.indices.now c.args.arguments.now c.args.out.now some)
+    c.push_str-then-not-is_empty-2.ensures.ok

@@ -13,5 +13,8 @@ loop-name-preserved c = λ q.
     let more = c.args.more.now in
     let i = c.loop-name.name-index in
     let split : drop i more ≡ string_bytes key ∷ drop (i + 1) more = grind (arith, common_steps) in
-    one_taken (string_bytes key) q (drop (i + 1) more) (contains_text set q) (contains_text c.insert.new.self q) (hash_set_updates_text (string_bytes key) set c.insert.new.self true c.in_ok-insert.ensures.updates q)
+    one_taken (string_bytes key) q (drop (i + 1) more) (contains_text set q)
+    (contains_text c.insert.new.self q)
+    (hash_set_updates_text
+    (string_bytes key) set c.insert.new.self true c.in_ok-insert.ensures.updates q)
     ∙ (ap (λ names. contains_text set q || among q names) (sym split) ∙ c.loop-name.invariant q)

@@ -7,4 +7,6 @@ use Rattle.sq_readback.proofs.Reading.{text_read}
 use Rattle.sq_readback.proofs.laws.a_printed_term_is_read_as_its_tokens.Goals as goal
 
 pub returns : goal.returns
-returns c = λ ns around t h. subst (λ x. IsRead x (spelled (term_syntax ns around t))) (text_is ns around t) (text_read (term_syntax ns around t) h)
+returns c =
+    λ ns around t h. subst (λ x. IsRead x (spelled (term_syntax ns around t))) (text_is ns around t)
+    (text_read (term_syntax ns around t) h)

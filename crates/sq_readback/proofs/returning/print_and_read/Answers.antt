@@ -1,5 +1,6 @@
-use Rattle.std.proofs.Common.{ap, sym, ◌∙◌}
+use Rattle.std.proofs.Common.{Ok, ap, sym, ◌∙◌}
 use Rattle.sq_lex.specs.Lex.{sentences}
+use Rattle.sq_lex.proofs.Answering.{stands_answer}
 use Rattle.sq_ast.specs.View.{formula_tree}
 use Rattle.sq_term.specs.View.{term_tree}
 use Rattle.sq_resolve.specs.Scopes.{context}
@@ -8,6 +9,8 @@ use Rattle.sq_readback.proofs.returning.print_and_read.Goals as goal
 
 pub returns-in-Ok : goal.returns-in-Ok
 returns-in-Ok c =
-    comes_back (context c.args.scope.now c.args.table.now c.args.env.now) c.args.want (term_tree c.args.t.now) c.requires.readable c.requires.within
-    _ (ap sentences (sym c.in_ok-text.ensures) ∙ c.in_ok-sentences.ensures)
-    (formula_tree c.in_ok-formula.formula) c.in_ok-formula.ensures (term_tree c.in-Ok.read) c.in-Ok.ensures.exact
+    comes_back (context c.args.scope.now c.args.table.now c.args.env.now) c.args.want
+    (term_tree c.args.t.now) c.requires.readable c.requires.within
+    _ (ap sentences (sym c.in_ok-text.ensures) ∙ stands_answer _ (Ok _) c.in_ok-sentences.ensures)
+    (formula_tree c.in_ok-formula.formula) c.in_ok-formula.ensures
+    (term_tree c.in-Ok.read) c.in-Ok.ensures.exact

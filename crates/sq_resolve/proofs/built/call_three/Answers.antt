@@ -1,8 +1,4 @@
-use Rattle.std.proofs.Common.{List, [], ◌∷◌, subst}
-use Rattle.sq_term.specs.declared.term.Idx.{Idx}
-use Rattle.sq_term.specs.Syntax as t
-use Rattle.sq_term.specs.View.{row}
-use Rattle.sq_resolve.specs.Built.{IsBuilt}
+use Rattle.std.proofs.Common.{[], ◌∷◌}
 use Rattle.sq_resolve.proofs.built.call_three.Goals as goal
 
 pub returns : goal.returns
@@ -10,4 +6,4 @@ returns c = λ x y z h k l.
     let one = c.in_ok-first.ensures [] x c.no_row.ensures h in
     let two = c.in_ok-second.ensures (x ∷ []) y one k in
     let three = c.in_ok-row.ensures (x ∷ y ∷ []) z two l in
-    subst (λ (is : List Idx). IsBuilt c.function.result (t.fun c.args.f is (row (x ∷ y ∷ z ∷ [])))) c.new.ensures (c.function.ensures (x ∷ y ∷ z ∷ []) three)
+    c.call_builtin.ensures (x ∷ y ∷ z ∷ []) three

@@ -1,12 +1,8 @@
-use Rattle.std.proofs.Common.{List, [], ◌∷◌, subst}
-use Rattle.sq_term.specs.declared.term.Idx.{Idx}
-use Rattle.sq_term.specs.Syntax as t
-use Rattle.sq_term.specs.View.{row}
-use Rattle.sq_resolve.specs.Built.{IsBuilt}
+use Rattle.std.proofs.Common.{[], ◌∷◌}
 use Rattle.sq_resolve.proofs.built.call_two.Goals as goal
 
 pub returns : goal.returns
 returns c = λ x y h k.
     let one = c.in_ok-first.ensures [] x c.no_row.ensures h in
     let two = c.in_ok-row.ensures (x ∷ []) y one k in
-    subst (λ (is : List Idx). IsBuilt c.function.result (t.fun c.args.f is (row (x ∷ y ∷ [])))) c.new.ensures (c.function.ensures (x ∷ y ∷ []) two)
+    c.call_builtin.ensures (x ∷ y ∷ []) two

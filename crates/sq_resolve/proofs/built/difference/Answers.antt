@@ -7,4 +7,5 @@ pub returns-in-TooLarge : goal.returns-in-TooLarge
 returns-in-TooLarge c = λ x y h k. left_passes x y (subst (λ b. IsBuilt b x) c.in-TooLarge.is h)
 
 pub returns-in-TooLarge-b : goal.returns-in-TooLarge-b
-returns-in-TooLarge-b c = λ x y h k. right_passes x y (subst (λ b. IsBuilt b y) c.in-TooLarge-b.is k)
+returns-in-TooLarge-b c =
+    λ x y h k. right_passes x y (subst (λ b. IsBuilt b y) c.in-TooLarge-b.is k)

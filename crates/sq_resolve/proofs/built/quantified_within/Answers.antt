@@ -7,6 +7,7 @@ use Rattle.sq_resolve.proofs.built.quantified_within.Goals as goal
 pub returns : goal.returns
 returns c = λ x h.
     c.sized.ensures (quantifier c.args.q c.args.sort x)
-    (c.with_quantifier.ensures ∙ ap (quantifier c.args.q c.args.sort) (ap term_tree c.in_ok-inner.ensures ∙ h.term_is))
+    (c.with_quantifier.ensures
+    ∙ ap (quantifier c.args.q c.args.sort) (ap term_tree c.in_ok-inner.ensures ∙ h.term_is))
     (let n = h.nodes_is in omega (arith, quantifier_size c.args.q c.args.sort x))
     (let n = h.depth_is in omega (arith, quantifier_depth c.args.q c.args.sort x))

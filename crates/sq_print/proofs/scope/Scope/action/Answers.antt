@@ -5,4 +5,6 @@ use Rattle.sq_print.proofs.scope.Scope.action.Goals as goal
 
 pub returns : goal.returns
 unfolding action_word
-returns c = let s = c.args.self.now in c.declared.ensures ∙ action_is s.table.now s.system s.spellings.now c.args.a s.told
+returns c = let s =
+    c.args.self.now in c.declared.ensures
+    ∙ action_is s.table.now s.system s.spellings.now c.args.a s.told

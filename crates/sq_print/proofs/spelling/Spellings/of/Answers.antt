@@ -8,5 +8,10 @@ declarations-preserved c =
     let at = c.declarations.at in
     let ds = c.args.table.now in
     let back : at ≡ (at - 1) + 1 = omega arith in
-    let told = subst (λ n. TellsFrom n (drop n ds) c.args.system c.declarations.spellings) back c.declarations.invariant.1 in
-    (omega arith, noted (at - 1) ds c.args.system c.declarations.spellings c.note.new.self (omega arith) told (rw c.symbol_at.ensures at c.in_ok-note.ensures))
+    let told =
+    subst (λ n. TellsFrom n (drop n ds) c.args.system c.declarations.spellings) back
+    c.declarations.invariant.1 in (
+      omega arith,
+      noted (at - 1) ds c.args.system c.declarations.spellings c.note.new.self
+          (omega arith) told (rw c.symbol_at.ensures at c.in_ok-note.ensures),
+    )

@@ -18,13 +18,22 @@ returns-clause-builds g c =
     let first = c.in_ok-test.ensures.kept ∙ pushed in
     let second = c.in_ok-then.ensures.kept ∙ first in
     let back = restored bs vs _ _ _ c.len-outer.ensures second c.truncate.ensures in
-    let test = at_scope k Boolean (formula_tree c.args.a.now) (Ok c.in_ok-test.test) (bs ++ vs) _ pushed c.in_ok-test.ensures.builds in
-    let then = at_scope k Message (formula_tree c.args.b.now) (Ok c.in_ok-then.then) (bs ++ vs) _ first c.in_ok-then.ensures.builds in
-    let other = at_scope k Message (formula_tree c.args.c.now) (Ok c.in_ok-other.other) bs _ back c.in_ok-other.ensures.builds in
+    let test =
+    at_scope k Boolean (formula_tree c.args.a.now) (Ok c.in_ok-test.test)
+    (bs ++ vs) _ pushed c.in_ok-test.ensures.builds in
+    let then =
+    at_scope k Message (formula_tree c.args.b.now) (Ok c.in_ok-then.then)
+    (bs ++ vs) _ first c.in_ok-then.ensures.builds in
+    let other =
+    at_scope k Message (formula_tree c.args.c.now)
+    (Ok c.in_ok-other.other) bs _ back c.in_ok-other.ensures.builds in
     let m = term_of k (bs ++ vs) Boolean (formula_tree c.args.a.now) in
     let n = term_of k (bs ++ vs) Message (formula_tree c.args.b.now) in
     let o = term_of k bs Message (formula_tree c.args.c.now) in
     let count : c.in_ok-count.count ≡ length c.args.names.now = c.in_ok-count.ensures in
-    builds_expected c.args.want Message (Ok c.in_ok-found.field-0) (three (t.find (length c.args.names.now)) m n o) c.in_ok-expect.ensures
+    builds_expected c.args.want Message (Ok c.in_ok-found.field-0)
+    (three (t.find (length c.args.names.now)) m n o) c.in_ok-expect.ensures
     (subst (λ (i : ℕ). Builds (Ok c.in_ok-found.field-0) (three (t.find i) m n o)) count
-    (built_three (t.find c.in_ok-count.count) c.in_ok-test.test c.in_ok-then.then c.in_ok-other.other c.in_ok-found.field-0 m n o test then other c.in_ok-found.ensures))
+    (built_three
+    (t.find c.in_ok-count.count) c.in_ok-test.test c.in_ok-then.then c.in_ok-other.other
+    c.in_ok-found.field-0 m n o test then other c.in_ok-found.ensures))

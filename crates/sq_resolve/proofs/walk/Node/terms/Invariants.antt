@@ -10,4 +10,9 @@ use Rattle.sq_resolve.proofs.walk.Node.terms.Given as goal
 abbrev pub invariant-loop-arg : goal.invariant-loop-arg
 invariant-loop-arg g l =
     (l.around ≡ l.initial.around)
-    × ((xs : List TermTree) × (IsRow l.row xs × (terms_of (context_of l.self.resolver.now) l.initial.around (formula_trees l.args) ≡ mapped (prepend xs) (terms_of (context_of l.self.resolver.now) l.initial.around (formula_trees (drop l.arg-index l.args))))))
+    × ((xs : List TermTree)
+    × (IsRow l.row xs
+    × (terms_of (context_of l.self.resolver.now) l.initial.around (formula_trees l.args)
+    ≡ mapped (prepend xs)
+    (terms_of (context_of l.self.resolver.now) l.initial.around
+    (formula_trees (drop l.arg-index l.args))))))
