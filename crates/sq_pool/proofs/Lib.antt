@@ -1,0 +1,4 @@
+pub mod SameNodes
+pub mod Nodes
+pub mod Trees
+pub mod Different
