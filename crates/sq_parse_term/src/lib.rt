@@ -13,6 +13,3 @@ mod words;
 pub use fault::ParseFault;
 pub use laws::one_tree;
 pub use parser::parse_formula;
-
-#[cfg(test)]
-mod tests;
