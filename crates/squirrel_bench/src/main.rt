@@ -3,6 +3,7 @@
 #![tactic(auto)]
 
 mod fault;
+mod pool;
 mod reading;
 mod resolution;
 mod rows;
@@ -42,6 +43,7 @@ fn turned(alloc: Global, words: &[String]) -> Result<u32, Fault> {
         "parsing" => reading::parsed(alloc, word.as_str(), turns),
         "resolution" => resolution::turned(alloc, word.as_str(), turns),
         "rows" => rows::turned(alloc, word.as_str(), turns),
+        "pool" => pool::turned(alloc, word.as_str(), turns),
         _ => Err(Fault::Usage),
     }
 }

@@ -2,7 +2,8 @@
 use crate::fault::Fault;
 use crate::substitution::tree;
 use sq_rules_logic::premises;
-use sq_sequent::{Dir, Env, Sequent, Step, Target, copy_sequent, negation};
+use sq_sequent::{Dir, Env, Sequent, Site, Step, Target, copy_sequent};
+use sq_term::formulas::negation;
 use sq_term::{Idx, NoMemory, Seq, Side, Sort, Term};
 use std::alloc::Global;
 
@@ -27,9 +28,14 @@ fn stepped(alloc: Global, step: Step, turns: u32) -> Result<u32, Fault> {
 
 fn taken(alloc: Global, step: &Step, s: &Sequent, turns: u32) -> Result<u32, Fault> {
     let env = Env::new(alloc)?;
+    let at = Site {
+        env: &env,
+        goal: 0,
+        sequent: s,
+    };
     let mut done: u32 = 0;
     for _ in 0..turns {
-        if premises(alloc, step, s, &env, 0)?.len() == 1 {
+        if premises(alloc, &at, step)?.len() == 1 {
             done = done.saturating_add(1);
         }
     }
@@ -65,6 +71,6 @@ fn sequent(alloc: Global) -> Result<Sequent, NoMemory> {
         side: Side::Both,
         vars: Seq::from_slice(alloc, &[Sort::Index, Sort::Index])?,
         hyps,
-        goal: negation(alloc, &formula)?,
+        goal: negation(alloc, formula)?,
     })
 }

@@ -1,8 +1,9 @@
 // A large term opened, and the same term copied.
 use crate::fault::Fault;
 use sq_subst::open_with;
-use sq_term::{Arg, Builtin, Idx, NoMemory, Seq, Sort, Term, copy};
-use sqlite_items::{Boxed, Items};
+use sq_term::formulas::both;
+use sq_term::{Arg, Idx, NoMemory, Seq, Sort, Term, copy};
+use sqlite_items::Boxed;
 use std::alloc::Global;
 
 const NODES: usize = 60_000;
@@ -53,8 +54,7 @@ pub fn tree(alloc: Global, leaves: u32, indices: &[Idx]) -> Result<Term, NoMemor
     if leaves < 2 {
         return Ok(Term::Name(7, Seq::from_slice(alloc, indices)?));
     }
-    let mut parts = Items::new(alloc);
-    parts.push(tree(alloc, leaves / 2, indices)?)?;
-    parts.push(tree(alloc, leaves - leaves / 2, indices)?)?;
-    Ok(Term::Fun(Builtin::And.number(), Seq::new(alloc), parts))
+    let left = tree(alloc, leaves / 2, indices)?;
+    let right = tree(alloc, leaves - leaves / 2, indices)?;
+    both(alloc, left, right)
 }

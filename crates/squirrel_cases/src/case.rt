@@ -1,0 +1,34 @@
+// A case: what is given, to what part of the program, and what is wanted of it.
+
+/// The part of the program that a case is about.
+#[derive(Clone, Copy, Debug, PartialEq, Eq)]
+pub enum Kind {
+    /// A source is cut into sentences.
+    Tokens,
+    /// The longest formula at the beginning of a source is read.
+    Formula,
+    /// How many tokens that formula has.
+    FormulaLength,
+}
+
+impl Kind {
+    /// The kind that a line of a case file names.
+    pub fn of(word: &str) -> Option<Kind> {
+        match word {
+            "tokens" => Some(Kind::Tokens),
+            "formula" => Some(Kind::Formula),
+            "formula-length" => Some(Kind::FormulaLength),
+            _ => None,
+        }
+    }
+}
+
+#[derive(Drop)]
+pub struct Case {
+    /// Where it begins in its file, counted from 1.
+    pub line: u32,
+    pub name: String,
+    pub kind: Kind,
+    pub given: String,
+    pub wanted: String,
+}
