@@ -1,7 +1,7 @@
 -- Where the macros' values are the same up to the limits, so are translations.
 use Rattle.std.proofs.Common.{◌≡◌, refl, sym, ap, subst, ℕ, zero, suc, ◌⊎◌, inl, inr, List, [], ◌∷◌}
 use Rattle.std.proofs.Common.{◌++◌, map, length, Bool, true, false, arith}
-use Rattle.std.specs.Prelude.{get_or, Option, Some, None, cond}
+use Rattle.std.specs.Prelude.{get_or, Option, Some, None, if◌then◌else◌}
 use Rattle.sq_term.specs.Macros.{GroundMacro, word}
 use Rattle.sq_term.specs.declared.term.Macro.TheVariants.{Input, Output, Cond, Exec, Frame}
 use Rattle.sq_term.specs.declared.model.Value.{Value}
@@ -108,7 +108,7 @@ module _ (room : ℕ) where
     other_one = record { times = w; values = k; left = l }
 
     either_side : (b : Bool) (x y z u : Ground) → Alike room x z → Alike room y u
-        → Alike room (cond b x y) (cond b z u)
+        → Alike room (if b then x else y) (if b then z else u)
     either_side true x y z u p q = p
     either_side false x y z u p q = q
 

@@ -1,7 +1,8 @@
 -- What an action's body reads in a trace stands no later than its instance.
 use Rattle.std.proofs.Common.{◌≡◌, refl, sym, ap, ◌∙◌, subst, ℕ, zero, suc, ◌+◌, ◌<◌, ◌≤◌, List, []}
-use Rattle.std.proofs.Common.{◌∷◌, ◌++◌, length, map, take, Bool, true, false, cond, arith}
+use Rattle.std.proofs.Common.{◌∷◌, ◌++◌, length, map, take, Bool, true, false, arith}
 use Rattle.std.specs.Prelude.{Option, Some, None, get_or, slice_get, IfSome, ◌||◌, ◌==◌, nat_lt}
+use Rattle.std.specs.Prelude.{if◌then◌else◌}
 use Rattle.std.specs.List.{list_any}
 use Rattle.std.proofs.lemmas.Bool.{eqb-true}
 use Rattle.sq_term.specs.declared.term.Idx.TheVariants.{Free}
@@ -70,13 +71,13 @@ pub place_from-no_later : (list : List Inst) (p j : ℕ) (i : Inst) (n : ℕ) (i
 place_from-no_later [] p j i n is r el h e = absurd el
 place_from-no_later (x ∷ list) p zero i n is r el h e =
     let f : is_instance n is x ≡ true = subst (λ z. is_instance n is z ≡ true) (sym el) h in
-    let g : Some p ≡ Some r = ap (λ b. cond b (Some p) (place_from (suc p) list n is)) (sym f)
-    ∙ e in
+    let g : Some p ≡ Some r =
+    ap (λ b. if b then Some p else place_from (suc p) list n is) (sym f) ∙ e in
     let k : p ≡ r = cc in omega arith
 place_from-no_later (x ∷ list) p (suc j) i n is r el h e =
     at (is_instance n is x) e (λ f. place_from-no_later list (suc p) j i n is r el h f)
   where
-    at : (b : Bool) → cond b (Some p) (place_from (suc p) list n is) ≡ Some r
+    at : (b : Bool) → (if b then Some p else place_from (suc p) list n is) ≡ Some r
         → (place_from (suc p) list n is ≡ Some r → r ≤ suc p + j) → r ≤ p + suc j
     at true e later = let g : p ≡ r = (let f : Some p ≡ Some r = e in cc) in omega arith
     at false e later = let b : r ≤ suc p + j = later e in omega arith

@@ -1,7 +1,7 @@
 -- Equals may be replaced in a well-sorted term, by the congruence rule.
-use Rattle.std.proofs.Common.{◌≡◌, refl, sym, ap, ◌∙◌, subst, ℕ, suc, List, [], ◌∷◌, ◌++◌, map}
-use Rattle.std.proofs.Common.{Bool, true, false, cond}
-use Rattle.std.specs.Prelude.{replicate}
+use Rattle.std.proofs.Common.{◌≡◌, refl, sym, ap, ◌∙◌, subst, ℕ, suc, ◌+◌, List, [], ◌∷◌, ◌++◌}
+use Rattle.std.proofs.Common.{map, Bool, true, false}
+use Rattle.std.specs.Prelude.{replicate, Some, None, unwrap_or, if◌then◌else◌}
 use Rattle.sq_base.specs.declared.sort.Sort.{Sort}
 use Rattle.sq_base.specs.declared.sort.Sort.TheVariants.{Message, Boolean, Index}
 use Rattle.sq_term.specs.declared.model.Value.{Value}
@@ -22,8 +22,10 @@ use Rattle.sq_term.specs.Translate.{translate_all}
 use Rattle.sq_term.proofs.BoolTests.{and_split}
 use Rattle.sq_term.proofs.Members.{each_none, each_cons, each_pair}
 use Rattle.sq_term.proofs.SameTrees.{is_same_tree-decides}
-use Rattle.sq_subst.specs.Replacement.{term_replaced, terms_replaced}
+use Rattle.sq_subst.specs.Leaves.{Leaves, term_below, map_term, map_terms}
+use Rattle.sq_subst.specs.Replacement.{exchanging_terms, term_replaced}
 use Rattle.sq_subst.proofs.Laws.{free_term}
+use Rattle.sq_subst.proofs.Stays.{indices_stay, times_stay}
 use Rattle.sq_typing.specs.Functions.{are_functions}
 use Rattle.sq_term.specs.Pure.{is_binder_sort}
 use Rattle.sq_typing.specs.Typing.{Signature, argument_sort, has_sort, have_sorts}
@@ -45,9 +47,10 @@ module _ (th : Theory) (left : Bool) (H : List Ground) where
   pub alike_itself : (b : Bool) (u : Ground) → Alike b u u
   alike_itself true u =
       valid th left H (equivalent u u)
-      (λ v h. let e : cond (value v u) (value v u) true ≡ true = if_from (value v u) (value v u)
-      (λ x. x) in
-      and_from (cond (value v u) (value v u) true) (cond (value v u) (value v u) true) e e)
+      (λ v h.
+      let e : (if value v u then value v u else true) ≡ true =
+      if_from (value v u) (value v u) (λ x. x) in
+      and_from (if value v u then value v u else true) (if value v u then value v u else true) e e)
   alike_itself false u =
       from_fact th left H (equal u u)
       (derive_outright th (fact left (equal u u)) (FollowsBy.reflexive left u))
@@ -98,7 +101,7 @@ module _ (th : Theory) (left : Bool) (H : List Ground) where
       (each_pair _ _ (Proved th left H) (k x) (choice_alike b b' t t' o o' xs h k l)))
 
   either_side : (c b : Bool) (t u t' u' : Ground) → Alike c t t' → Alike c u u'
-      → Alike c (cond b t u) (cond b t' u')
+      → Alike c (if b then t else u) (if b then t' else u')
   either_side c true t u t' u' h k = h
   either_side c false t u t' u' h k = k
 
@@ -110,12 +113,16 @@ module _ (th : Theory) (left : Bool) (H : List Ground) where
     w = world_at th left
 
     module _ (equal : Alike (is_boolean_sort r) (translate w a [] from) (translate w a [] to)) where
-      -- the whole term is replaced, or what was made of its parts stays
+      abbrev L : Leaves
+      L = exchanging_terms from to
+
+      -- what is put in the place of the whole, or what was made of its parts
       here_or : (bs : List Value) (ss : List Sort) (s : Sort) (t other : TermTree)
           → has_sort g ss s t ≡ true
           → Alike (is_boolean_sort s) (translate w a bs t) (translate w a bs other)
           → (b : Bool) → is_same_tree t from ≡ b
-          → Alike (is_boolean_sort s) (translate w a bs t) (translate w a bs (cond b to other))
+          → Alike (is_boolean_sort s) (translate w a bs t)
+          (translate w a bs (unwrap_or (if b then Some to else None) other))
       here_or bs ss s t other h p true q =
           let is : t ≡ from = (is_same_tree-decides t from).0 q in
           let sorts : r ≡ s =
@@ -126,12 +133,17 @@ module _ (th : Theory) (left : Bool) (H : List Ground) where
           subst (Proved th left H) (λ i. alike (is_boolean_sort (sorts i)) (there i) (new i)) equal
       here_or bs ss s t other h p false q = p
 
-      kept : (bs : List Value) (ss : List Sort) (s : Sort) (t : TermTree) → has_sort g ss s t ≡ true
-          → Alike (is_boolean_sort s) (translate w a bs t)
-          (translate w a bs (cond (is_same_tree t from) to t))
-      kept bs ss s t h =
-          here_or bs ss s t t h (alike_itself (is_boolean_sort s) (translate w a bs t))
-          (is_same_tree t from) refl
+      part : (bs : List Value) (ss : List Sort) (s : Sort) (m : ℕ) (t : TermTree)
+          → has_sort g ss s t ≡ true
+          → Alike (is_boolean_sort s) (translate w a bs t) (translate w a bs (term_below L m t))
+          → Alike (is_boolean_sort s) (translate w a bs t) (translate w a bs (map_term L m t))
+      part bs ss s m t h p = here_or bs ss s t (term_below L m t) h p (is_same_tree t from) refl
+
+      kept : (bs : List Value) (s : Sort) (t u : TermTree) → t ≡ u
+          → Alike (is_boolean_sort s) (translate w a bs t) (translate w a bs u)
+      kept bs s t u e =
+          subst (λ x. Alike (is_boolean_sort s) (translate w a bs t) (translate w a bs x)) e
+          (alike_itself (is_boolean_sort s) (translate w a bs t))
 
       -- at a term of this sort
       at_sort : (q s : Sort) (u v : Ground) → q ≡ s → Alike (is_boolean_sort q) u v
@@ -139,92 +151,98 @@ module _ (th : Theory) (left : Bool) (H : List Ground) where
       at_sort q s u v e p = subst (λ z. Alike (is_boolean_sort z) u v) e p
 
       mutual
-        pub replaced_law : (bs : List Value) (ss : List Sort) (s : Sort) (t : TermTree)
+        below_law : (bs : List Value) (ss : List Sort) (s : Sort) (m : ℕ) (t : TermTree)
             → has_sort g ss s t ≡ true
-            → Alike (is_boolean_sort s) (translate w a bs t)
-            (translate w a bs (term_replaced from to t))
-        replaced_law bs ss s (name n is) h = kept bs ss s (name n is) h
-        replaced_law bs ss s (fun f is ts) h =
+            → Alike (is_boolean_sort s) (translate w a bs t) (translate w a bs (term_below L m t))
+        below_law bs ss s m (name n is) h =
+            kept bs s (name n is) _ (sym (ap (name n) (indices_stay is)))
+        below_law bs ss s m (fun f is ts) h =
             let e : is_boolean_function th.funs f ≡ is_boolean_sort s =
             ap (λ fs. is_boolean_function fs f) (sym read)
             ∙ application_sort g ss s f is ts ok h in
             let us : Grounds = translate_all w a bs ts in
-            let vs : Grounds = translate_all w a bs (terms_replaced from to ts) in
+            let vs : Grounds = translate_all w a bs (map_terms L m ts) in
             let js : List ℕ = idx_values a bs is in
-            here_or bs ss s (fun f is ts) (fun f is (terms_replaced from to ts)) h
+            let same : js ≡ idx_values a bs (map (L.index m) is) =
+            sym (ap (idx_values a bs) (indices_stay is)) in
+            subst (λ ks. Alike (is_boolean_sort s) (applied f js us) (applied f ks vs)) same
             (subst (λ b. Alike b (applied f js us) (applied f js vs)) e
-            (congruence f js us vs (same_count bs ts)
-            (replaced_laws bs ss f 0 ts (argument_sorts g ss s f is ts h))))
-            (is_same_tree (fun f is ts) from) refl
-        replaced_law bs ss s (macro m t) h = kept bs ss s (macro m t) h
-        replaced_law bs ss s (schema k) h = kept bs ss s (schema k) h
-        replaced_law bs ss s (diff t u) h =
+            (congruence f js us vs (same_count bs m ts)
+            (below_laws bs ss f 0 m ts (argument_sorts g ss s f is ts h))))
+        below_law bs ss s m (macro x t) h =
+            kept bs s (macro x t) _ (sym (ap (macro x) (times_stay from to m t)))
+        below_law bs ss s m (schema k) h = kept bs s (schema k) _ refl
+        below_law bs ss s m (diff t u) h =
             let p = and_split (has_sort g ss s t) (has_sort g ss s u) h in
-            here_or bs ss s (diff t u) (diff (term_replaced from to t) (term_replaced from to u)) h
-            (either_side (is_boolean_sort s) left (translate w a bs t) (translate w a bs u)
-            (translate w a bs (term_replaced from to t))
-            (translate w a bs (term_replaced from to u))
-            (replaced_law bs ss s t p.0) (replaced_law bs ss s u p.1))
-            (is_same_tree (diff t u) from) refl
-        replaced_law bs ss s (le t u) h = kept bs ss s (le t u) h
-        replaced_law bs ss s (ts_eq t u) h = kept bs ss s (ts_eq t u) h
-        replaced_law bs ss s (idx_eq i j) h = kept bs ss s (idx_eq i j) h
-        replaced_law bs ss s (happens t) h = kept bs ss s (happens t) h
-        replaced_law bs ss s (all b t) h =
+            either_side (is_boolean_sort s) left (translate w a bs t) (translate w a bs u)
+            (translate w a bs (map_term L m t)) (translate w a bs (map_term L m u))
+            (part bs ss s m t p.0 (below_law bs ss s m t p.0))
+            (part bs ss s m u p.1 (below_law bs ss s m u p.1))
+        below_law bs ss s m (le t u) h =
+            kept bs s (le t u) _
+            (sym (λ i. le (times_stay from to m t i) (times_stay from to m u i)))
+        below_law bs ss s m (ts_eq t u) h =
+            kept bs s (ts_eq t u) _
+            (sym (λ i. ts_eq (times_stay from to m t i) (times_stay from to m u i)))
+        below_law bs ss s m (idx_eq i j) h = kept bs s (idx_eq i j) _ refl
+        below_law bs ss s m (happens t) h =
+            kept bs s (happens t) _ (sym (ap happens (times_stay from to m t)))
+        below_law bs ss s m (all b t) h =
             let p = and_split (is_same_sort Boolean s) _ h in
             let q = and_split (is_binder_sort b) (has_sort g (b ∷ ss) Boolean t) p.1 in
-            here_or bs ss s (all b t) (all b (term_replaced from to t)) h
-            (at_sort Boolean s _ _ (first_sort Boolean s _ h)
+            at_sort Boolean s _ _ (first_sort Boolean s _ h)
             (conj_alike (λ x. translate w a (x ∷ bs) t)
-            (λ x. translate w a (x ∷ bs) (term_replaced from to t)) (domain w.times b)
-            (λ x. replaced_law (x ∷ bs) (b ∷ ss) Boolean t q.1)))
-            (is_same_tree (all b t) from) refl
-        replaced_law bs ss s (some b t) h =
+            (λ x. translate w a (x ∷ bs) (map_term L (m + 1) t)) (domain w.times b)
+            (λ x. part (x ∷ bs) (b ∷ ss) Boolean (m + 1) t q.1
+            (below_law (x ∷ bs) (b ∷ ss) Boolean (m + 1) t q.1)))
+        below_law bs ss s m (some b t) h =
             let p = and_split (is_same_sort Boolean s) _ h in
             let q = and_split (is_binder_sort b) (has_sort g (b ∷ ss) Boolean t) p.1 in
-            here_or bs ss s (some b t) (some b (term_replaced from to t)) h
-            (at_sort Boolean s _ _ (first_sort Boolean s _ h)
+            at_sort Boolean s _ _ (first_sort Boolean s _ h)
             (disj_alike (λ x. translate w a (x ∷ bs) t)
-            (λ x. translate w a (x ∷ bs) (term_replaced from to t)) (domain w.times b)
-            (λ x. replaced_law (x ∷ bs) (b ∷ ss) Boolean t q.1)))
-            (is_same_tree (some b t) from) refl
-        replaced_law bs ss s (find c t u v) h =
+            (λ x. translate w a (x ∷ bs) (map_term L (m + 1) t)) (domain w.times b)
+            (λ x. part (x ∷ bs) (b ∷ ss) Boolean (m + 1) t q.1
+            (below_law (x ∷ bs) (b ∷ ss) Boolean (m + 1) t q.1)))
+        below_law bs ss s m (find c t u v) h =
             let inner : List Sort = replicate c Index ++ ss in
             let p = and_split (is_same_sort Message s) _ h in
             let q = and_split (has_sort g inner Boolean t) _ p.1 in
             let z = and_split (has_sort g inner Message u) (has_sort g ss Message v) q.1 in
-            here_or bs ss s (find c t u v)
-            (find c (term_replaced from to t) (term_replaced from to u)
-            (term_replaced from to v)) h
-            (at_sort Message s _ _ (first_sort Message s _ h)
+            at_sort Message s _ _ (first_sort Message s _ h)
             (choice_alike (λ xs. translate w a xs t)
-            (λ xs. translate w a xs (term_replaced from to t)) (λ xs. translate w a xs u)
-            (λ xs. translate w a xs (term_replaced from to u))
-            (translate w a bs v) (translate w a bs (term_replaced from to v)) (choices w.times c bs)
-            (λ xs. replaced_law xs inner Boolean t q.0) (λ xs. replaced_law xs inner Message u z.0)
-            (replaced_law bs ss Message v z.1)))
-            (is_same_tree (find c t u v) from) refl
+            (λ xs. translate w a xs (map_term L (m + c) t)) (λ xs. translate w a xs u)
+            (λ xs. translate w a xs (map_term L (m + c) u))
+            (translate w a bs v) (translate w a bs (map_term L m v)) (choices w.times c bs)
+            (λ xs. part xs inner Boolean (m + c) t q.0 (below_law xs inner Boolean (m + c) t q.0))
+            (λ xs. part xs inner Message (m + c) u z.0 (below_law xs inner Message (m + c) u z.0))
+            (part bs ss Message m v z.1 (below_law bs ss Message m v z.1)))
 
-        replaced_laws : (bs : List Value) (ss : List Sort) (f : Kind) (k : ℕ) (ts : TermTrees)
+        below_laws : (bs : List Value) (ss : List Sort) (f : Kind) (k m : ℕ) (ts : TermTrees)
             → have_sorts g ss f k ts ≡ true
             → Each (Proved th left H)
             (alike_arguments f k (translate_all w a bs ts)
-            (translate_all w a bs (terms_replaced from to ts)))
-        replaced_laws bs ss f k nil h = each_none (Proved th left H)
-        replaced_laws bs ss f k (cons t ts) h =
+            (translate_all w a bs (map_terms L m ts)))
+        below_laws bs ss f k m nil h = each_none (Proved th left H)
+        below_laws bs ss f k m (cons t ts) h =
             let p = and_split (has_sort g ss (argument_sort f k) t)
             (have_sorts g ss f (suc k) ts) h in
             each_cons
-            (alike (takes_boolean f k) (translate w a bs t)
-            (translate w a bs (term_replaced from to t)))
+            (alike (takes_boolean f k) (translate w a bs t) (translate w a bs (map_term L m t)))
             (alike_arguments f (suc k) (translate_all w a bs ts)
-            (translate_all w a bs (terms_replaced from to ts))) (Proved th left H)
-            (subst (λ b. Alike b (translate w a bs t) (translate w a bs (term_replaced from to t)))
+            (translate_all w a bs (map_terms L m ts))) (Proved th left H)
+            (subst (λ b. Alike b (translate w a bs t) (translate w a bs (map_term L m t)))
             (boolean_or_message (takes_boolean f k))
-            (replaced_law bs ss (argument_sort f k) t p.0))
-            (replaced_laws bs ss f (suc k) ts p.1)
+            (part bs ss (argument_sort f k) m t p.0 (below_law bs ss (argument_sort f k) m t p.0)))
+            (below_laws bs ss f (suc k) m ts p.1)
 
-        same_count : (bs : List Value) (ts : TermTrees) → count_grounds (translate_all w a bs ts)
-            ≡ count_grounds (translate_all w a bs (terms_replaced from to ts))
-        same_count bs nil = refl
-        same_count bs (cons t ts) = ap suc (same_count bs ts)
+        same_count : (bs : List Value) (m : ℕ) (ts : TermTrees)
+            → count_grounds (translate_all w a bs ts)
+            ≡ count_grounds (translate_all w a bs (map_terms L m ts))
+        same_count bs m nil = refl
+        same_count bs m (cons t ts) = ap suc (same_count bs m ts)
+
+      pub replaced_law : (bs : List Value) (ss : List Sort) (s : Sort) (t : TermTree)
+          → has_sort g ss s t ≡ true
+          → Alike (is_boolean_sort s) (translate w a bs t)
+          (translate w a bs (term_replaced from to t))
+      replaced_law bs ss s t h = part bs ss s 0 t h (below_law bs ss s 0 t h)

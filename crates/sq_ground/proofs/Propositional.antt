@@ -1,5 +1,6 @@
 -- The propositional rules, as consequences of the truth-table rule.
-use Rattle.std.proofs.Common.{◌≡◌, refl, List, [], ◌∷◌, ◌++◌, map, Bool, true, false, cond}
+use Rattle.std.proofs.Common.{◌≡◌, refl, List, [], ◌∷◌, ◌++◌, map, Bool, true, false}
+use Rattle.std.specs.Prelude.{if◌then◌else◌}
 use Rattle.sq_term.specs.Lists.{Member, here, there, Each}
 use Rattle.sq_term.proofs.Members.{member-map, each-map, each-append, each-push, each_cons}
 use Rattle.sq_term.proofs.Members.{each_none, each_single, each_pair}
@@ -14,46 +15,47 @@ use Rattle.sq_ground.specs.Derivations.{HasDerivation}
 use Rattle.sq_ground.proofs.Derivations.{derive}
 
 -- Booleans
-pub if_from : (x y : Bool) → (x ≡ true → y ≡ true) → cond x y true ≡ true
+pub if_from : (x y : Bool) → (x ≡ true → y ≡ true) → (if x then y else true) ≡ true
 if_from true y h = h refl
 if_from false y h = refl
 
-pub if_to : (x y : Bool) → cond x y true ≡ true → x ≡ true → y ≡ true
+pub if_to : (x y : Bool) → (if x then y else true) ≡ true → x ≡ true → y ≡ true
 if_to true y h e = h
 if_to false y h e = cc
 
-pub not_from : (x : Bool) → (x ≡ true → false ≡ true) → cond x false true ≡ true
+pub not_from : (x : Bool) → (x ≡ true → false ≡ true) → (if x then false else true) ≡ true
 not_from true h = h refl
 not_from false h = refl
 
-pub not_to : (x : Bool) → cond x false true ≡ true → x ≡ true → false ≡ true
+pub not_to : (x : Bool) → (if x then false else true) ≡ true → x ≡ true → false ≡ true
 not_to true h e = h
 not_to false h e = e
 
-pub and_from : (x y : Bool) → x ≡ true → y ≡ true → cond x y false ≡ true
+pub and_from : (x y : Bool) → x ≡ true → y ≡ true → (if x then y else false) ≡ true
 and_from x y e f = cc
 
-pub and_left : (x y : Bool) → cond x y false ≡ true → x ≡ true
+pub and_left : (x y : Bool) → (if x then y else false) ≡ true → x ≡ true
 and_left true y h = refl
 and_left false y h = h
 
-pub and_right : (x y : Bool) → cond x y false ≡ true → y ≡ true
+pub and_right : (x y : Bool) → (if x then y else false) ≡ true → y ≡ true
 and_right true y h = h
 and_right false y h = cc
 
-pub or_left : (x y : Bool) → x ≡ true → cond x true y ≡ true
+pub or_left : (x y : Bool) → x ≡ true → (if x then true else y) ≡ true
 or_left x y e = cc
 
-pub or_right : (x y : Bool) → y ≡ true → cond x true y ≡ true
+pub or_right : (x y : Bool) → y ≡ true → (if x then true else y) ≡ true
 or_right true y e = refl
 or_right false y e = e
 
-pub or_cases : {P : Type 0} (x y : Bool) → cond x true y ≡ true → (x ≡ true → P) → (y ≡ true → P)
-    → P
+pub or_cases : {P : Type 0} (x y : Bool) → (if x then true else y) ≡ true → (x ≡ true → P)
+    → (y ≡ true → P) → P
 or_cases true y h f g = f refl
 or_cases false y h f g = g h
 
-pub either_way : {P : Type 0} (x : Bool) → (x ≡ true → P) → (cond x false true ≡ true → P) → P
+pub either_way : {P : Type 0} (x : Bool) → (x ≡ true → P)
+    → ((if x then false else true) ≡ true → P) → P
 either_way true f g = f refl
 either_way false f g = g refl
 

@@ -26,7 +26,8 @@ use Rattle.sq_typing.specs.Functions.{are_functions}
 use Rattle.sq_typing.specs.Typing.{Signature, macro_sort, has_sort, binds_indices}
 use Rattle.sq_system.specs.Statements.{EnvTree, no_actions}
 use Rattle.sq_system.specs.Usable.{system_of, statement_at}
-use Rattle.sq_system.specs.WellFormed.{signature_of, is_body, are_bodies, is_well_sorted}
+use Rattle.sq_system.specs.Scopes.{signature_of}
+use Rattle.sq_system.specs.WellFormed.{is_body, are_bodies, is_well_sorted}
 use Rattle.sq_system.specs.WellFormed.{is_environment}
 use Rattle.sq_system.proofs.EnvLaws.{environment_parts}
 use Rattle.sq_ground.specs.GroundSorts.{IsMessage}

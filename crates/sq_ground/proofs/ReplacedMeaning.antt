@@ -1,21 +1,24 @@
 -- A replaced term means the term with some places of its meaning replaced.
-use Rattle.std.proofs.Common.{◌≡◌, refl, sym, ap, ◌∙◌, subst, List, [], ◌∷◌, map, Bool, true}
-use Rattle.std.proofs.Common.{false, cond}
+use Rattle.std.proofs.Common.{◌≡◌, refl, sym, ap, ◌∙◌, subst, ℕ, ◌+◌, List, [], ◌∷◌, map, Bool}
+use Rattle.std.proofs.Common.{true, false}
+use Rattle.std.specs.Prelude.{Some, None, unwrap_or, if◌then◌else◌}
 use Rattle.sq_term.specs.declared.model.Value.{Value}
 use Rattle.sq_term.specs.Lists.{fold_right}
 use Rattle.sq_term.specs.Closed.{is_closed}
 use Rattle.sq_term.specs.Symbols as kind
 use Rattle.sq_term.specs.Symbols.{Kind}
-use Rattle.sq_term.specs.Syntax.{TermTree, name, fun, macro, schema, diff, le, ts_eq, idx_eq}
-use Rattle.sq_term.specs.Syntax.{happens, all, some, find, TermTrees, nil, cons}
+use Rattle.sq_term.specs.Syntax.{TsTree, TermTree, name, fun, macro, schema, diff, le, ts_eq}
+use Rattle.sq_term.specs.Syntax.{idx_eq, happens, all, some, find, TermTrees, nil, cons}
 use Rattle.sq_term.specs.TreeEquality.{is_same_tree}
 use Rattle.sq_term.specs.Ground.{Ground, applied, none, more}
 use Rattle.sq_term.specs.GroundFormulas.{truth, falsity, conditional, conj, disj_of_all}
 use Rattle.sq_term.specs.Translate.{World, Assignment, idx_values, domain, choices, translate}
 use Rattle.sq_term.specs.Translate.{translate_all}
 use Rattle.sq_term.proofs.SameTrees.{is_same_tree-decides}
-use Rattle.sq_subst.specs.Replacement.{term_replaced, terms_replaced}
+use Rattle.sq_subst.specs.Leaves.{Leaves, map_ts, term_below, map_term, map_terms}
+use Rattle.sq_subst.specs.Replacement.{exchanging_terms, term_replaced}
 use Rattle.sq_subst.proofs.Laws.{free_term}
+use Rattle.sq_subst.proofs.Stays.{indices_stay, times_stay}
 use Rattle.sq_ground.specs.Replaced.{Replaced, whole, kept, inside, AllReplaced, no_more}
 use Rattle.sq_ground.specs.Replaced.{first_and_rest}
 
@@ -56,7 +59,7 @@ module _ (old new : Ground) where
       (first_and_rest _ _ _ _ (choice_replaced b b' t t' o o' xs h k l) no_more)))
 
   either_replaced : (b : Bool) (t u t' u' : Ground) → Becomes t t' → Becomes u u'
-      → Becomes (cond b t u) (cond b t' u')
+      → Becomes (if b then t else u) (if b then t' else u')
   either_replaced true t u t' u' h k = h
   either_replaced false t u t' u' h k = k
 
@@ -68,10 +71,18 @@ module _ (w : World) (a : Assignment) (from to : TermTree) (from_closed : is_clo
   abbrev new : Ground
   new = translate w a [] to
 
+  abbrev L : Leaves
+  L = exchanging_terms from to
+
+  stay : (m : ℕ) (t : TsTree) → map_ts L m t ≡ t
+  stay = times_stay from to
+
+  -- what is put in the place of the whole, or what was made of its parts
   here_or : (bs : List Value) (t other : TermTree)
       → Replaced old new (translate w a bs t) (translate w a bs other)
       → (b : Bool) → is_same_tree t from ≡ b
-      → Replaced old new (translate w a bs t) (translate w a bs (cond b to other))
+      → Replaced old new (translate w a bs t)
+      (translate w a bs (unwrap_or (if b then Some to else None) other))
   here_or bs t other p true q =
       let is : t ≡ from = (is_same_tree-decides t from).0 q in
       let there : old ≡ translate w a bs t =
@@ -81,56 +92,60 @@ module _ (w : World) (a : Assignment) (from to : TermTree) (from_closed : is_clo
       (subst (λ x. Replaced old new x new) there whole)
   here_or bs t other p false q = p
 
-  same_or : (bs : List Value) (t : TermTree)
-      → Replaced old new (translate w a bs t) (translate w a bs (cond (is_same_tree t from) to t))
-  same_or bs t = here_or bs t t (kept (translate w a bs t)) (is_same_tree t from) refl
+  part : (bs : List Value) (m : ℕ) (t : TermTree)
+      → Replaced old new (translate w a bs t) (translate w a bs (term_below L m t))
+      → Replaced old new (translate w a bs t) (translate w a bs (map_term L m t))
+  part bs m t p = here_or bs t (term_below L m t) p (is_same_tree t from) refl
+
+  same : (bs : List Value) (t u : TermTree) → t ≡ u
+      → Replaced old new (translate w a bs t) (translate w a bs u)
+  same bs t u e = subst (λ x. Replaced old new (translate w a bs t) (translate w a bs x)) e
+      (kept (translate w a bs t))
 
   mutual
-    pub meaning_replaced : (bs : List Value) (t : TermTree)
-        → Replaced old new (translate w a bs t) (translate w a bs (term_replaced from to t))
-    meaning_replaced bs (name n is) = same_or bs (name n is)
-    meaning_replaced bs (fun f is ts) =
-        here_or bs (fun f is ts) (fun f is (terms_replaced from to ts))
-        (inside f (idx_values a bs is) _ _ (meanings_replaced bs ts))
-        (is_same_tree (fun f is ts) from) refl
-    meaning_replaced bs (macro m t) = same_or bs (macro m t)
-    meaning_replaced bs (schema k) = same_or bs (schema k)
-    meaning_replaced bs (diff t u) =
-        here_or bs (diff t u) (diff (term_replaced from to t) (term_replaced from to u))
-        (either_replaced old new w.left (translate w a bs t) (translate w a bs u)
-        (translate w a bs (term_replaced from to t))
-        (translate w a bs (term_replaced from to u)) (meaning_replaced bs t)
-        (meaning_replaced bs u))
-        (is_same_tree (diff t u) from) refl
-    meaning_replaced bs (le t u) = same_or bs (le t u)
-    meaning_replaced bs (ts_eq t u) = same_or bs (ts_eq t u)
-    meaning_replaced bs (idx_eq i j) = same_or bs (idx_eq i j)
-    meaning_replaced bs (happens t) = same_or bs (happens t)
-    meaning_replaced bs (all s t) =
-        here_or bs (all s t) (all s (term_replaced from to t))
-        (conj_replaced old new (λ x. translate w a (x ∷ bs) t)
-        (λ x. translate w a (x ∷ bs) (term_replaced from to t)) (domain w.times s)
-        (λ x. meaning_replaced (x ∷ bs) t))
-        (is_same_tree (all s t) from) refl
-    meaning_replaced bs (some s t) =
-        here_or bs (some s t) (some s (term_replaced from to t))
-        (disj_replaced old new (λ x. translate w a (x ∷ bs) t)
-        (λ x. translate w a (x ∷ bs) (term_replaced from to t)) (domain w.times s)
-        (λ x. meaning_replaced (x ∷ bs) t))
-        (is_same_tree (some s t) from) refl
-    meaning_replaced bs (find c t u v) =
-        here_or bs (find c t u v)
-        (find c (term_replaced from to t) (term_replaced from to u) (term_replaced from to v))
-        (choice_replaced old new (λ xs. translate w a xs t)
-        (λ xs. translate w a xs (term_replaced from to t)) (λ xs. translate w a xs u)
-        (λ xs. translate w a xs (term_replaced from to u))
-        (translate w a bs v) (translate w a bs (term_replaced from to v)) (choices w.times c bs)
-        (λ xs. meaning_replaced xs t) (λ xs. meaning_replaced xs u) (meaning_replaced bs v))
-        (is_same_tree (find c t u v) from) refl
+    below_replaced : (bs : List Value) (m : ℕ) (t : TermTree)
+        → Replaced old new (translate w a bs t) (translate w a bs (term_below L m t))
+    below_replaced bs m (name n is) =
+        same bs (name n is) _ (sym (ap (name n) (indices_stay is)))
+    below_replaced bs m (fun f is ts) =
+        subst (λ js. Replaced old new (translate w a bs (fun f is ts))
+        (translate w a bs (fun f js (map_terms L m ts)))) (sym (indices_stay is))
+        (inside f (idx_values a bs is) _ _ (meanings_replaced bs m ts))
+    below_replaced bs m (macro x t) = same bs (macro x t) _ (sym (ap (macro x) (stay m t)))
+    below_replaced bs m (schema k) = kept (translate w a bs (schema k))
+    below_replaced bs m (diff t u) =
+        either_replaced old new w.left (translate w a bs t) (translate w a bs u)
+        (translate w a bs (map_term L m t)) (translate w a bs (map_term L m u))
+        (part bs m t (below_replaced bs m t)) (part bs m u (below_replaced bs m u))
+    below_replaced bs m (le t u) =
+        same bs (le t u) _ (sym (λ i. le (stay m t i) (stay m u i)))
+    below_replaced bs m (ts_eq t u) =
+        same bs (ts_eq t u) _ (sym (λ i. ts_eq (stay m t i) (stay m u i)))
+    below_replaced bs m (idx_eq i j) = kept (translate w a bs (idx_eq i j))
+    below_replaced bs m (happens t) = same bs (happens t) _ (sym (ap happens (stay m t)))
+    below_replaced bs m (all s t) =
+        conj_replaced old new (λ x. translate w a (x ∷ bs) t)
+        (λ x. translate w a (x ∷ bs) (map_term L (m + 1) t)) (domain w.times s)
+        (λ x. part (x ∷ bs) (m + 1) t (below_replaced (x ∷ bs) (m + 1) t))
+    below_replaced bs m (some s t) =
+        disj_replaced old new (λ x. translate w a (x ∷ bs) t)
+        (λ x. translate w a (x ∷ bs) (map_term L (m + 1) t)) (domain w.times s)
+        (λ x. part (x ∷ bs) (m + 1) t (below_replaced (x ∷ bs) (m + 1) t))
+    below_replaced bs m (find c t u v) =
+        choice_replaced old new (λ xs. translate w a xs t)
+        (λ xs. translate w a xs (map_term L (m + c) t)) (λ xs. translate w a xs u)
+        (λ xs. translate w a xs (map_term L (m + c) u))
+        (translate w a bs v) (translate w a bs (map_term L m v)) (choices w.times c bs)
+        (λ xs. part xs (m + c) t (below_replaced xs (m + c) t))
+        (λ xs. part xs (m + c) u (below_replaced xs (m + c) u))
+        (part bs m v (below_replaced bs m v))
 
-    meanings_replaced : (bs : List Value) (ts : TermTrees)
-        → AllReplaced old new (translate_all w a bs ts)
-        (translate_all w a bs (terms_replaced from to ts))
-    meanings_replaced bs nil = no_more
-    meanings_replaced bs (cons t ts) =
-        first_and_rest _ _ _ _ (meaning_replaced bs t) (meanings_replaced bs ts)
+    meanings_replaced : (bs : List Value) (m : ℕ) (ts : TermTrees)
+        → AllReplaced old new (translate_all w a bs ts) (translate_all w a bs (map_terms L m ts))
+    meanings_replaced bs m nil = no_more
+    meanings_replaced bs m (cons t ts) =
+        first_and_rest _ _ _ _ (part bs m t (below_replaced bs m t)) (meanings_replaced bs m ts)
+
+  pub meaning_replaced : (bs : List Value) (t : TermTree)
+      → Replaced old new (translate w a bs t) (translate w a bs (term_replaced from to t))
+  meaning_replaced bs t = part bs 0 t (below_replaced bs 0 t)

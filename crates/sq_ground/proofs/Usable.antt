@@ -1,8 +1,8 @@
 -- What holds before an earlier goal holds before a later one that may use it; so the goals of a
 -- file hold one after the other.
 use Rattle.std.proofs.Common.{◌≡◌, refl, sym, ap, subst, ℕ, zero, suc, ◌+◌, ◌<◌, ◌≤◌, ◌⊎◌, ⊎_elim}
-use Rattle.std.proofs.Common.{List, [], ◌∷◌, ◌++◌, Bool, true, false, cond, arith}
-use Rattle.std.specs.Prelude.{flat_map, get_or, ◌&&◌, ◌||◌, ◌==◌, nat_lt}
+use Rattle.std.proofs.Common.{List, [], ◌∷◌, ◌++◌, Bool, true, false, arith}
+use Rattle.std.specs.Prelude.{flat_map, get_or, ◌&&◌, ◌||◌, ◌==◌, nat_lt, if◌then◌else◌}
 use Rattle.std.proofs.lemmas.Bool.{eqb-true}
 use Rattle.std.proofs.lemmas.Bool.Decides.{nat_tests}
 use Rattle.sq_term.specs.declared.model.Model.{Model}
@@ -132,19 +132,19 @@ module _ (env : EnvTree) where
 
   abbrev axioms_of : ℕ → ℕ → List TermTree
   axioms_of n j =
-      cond (is_axiom (statement_at env j).kind && usable env n j)
-      (formula_of (statement_at env j).start ∷ []) []
+      if is_axiom (statement_at env j).kind && usable env n j then
+      formula_of (statement_at env j).start ∷ [] else []
 
   axioms_later : (g k : ℕ) → k < g → system_number k ≡ system_number g
       → Each (Member (usable_axioms env g)) (usable_axioms env k)
   axioms_later g k b e t i = found (flat_map-from (axioms_of k) (count 0 k) t i)
     where
       same_there : (j : ℕ) (a c : Bool)
-          → Member (cond a (formula_of (statement_at env j).start ∷ []) []) t
+          → Member (if a then formula_of (statement_at env j).start ∷ [] else []) t
           → (a ≡ true → c ≡ true)
-          → Member (cond c (formula_of (statement_at env j).start ∷ []) []) t
+          → Member (if c then formula_of (statement_at env j).start ∷ [] else []) t
       same_there j true c i h =
-          subst (λ q. Member (cond q (formula_of (statement_at env j).start ∷ []) []) t)
+          subst (λ q. Member (if q then formula_of (statement_at env j).start ∷ [] else []) t)
           (sym (h refl)) i
       same_there j false c i h = elim i [ ]
 

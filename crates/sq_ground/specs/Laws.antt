@@ -20,7 +20,8 @@ use Rattle.sq_typing.specs.Typing.{has_sort}
 use Rattle.sq_system.specs.Facts.{IsSystem}
 use Rattle.sq_system.specs.Statements.{EnvTree}
 use Rattle.sq_system.specs.Usable.{system_of}
-use Rattle.sq_system.specs.WellFormed.{is_environment, signature_of}
+use Rattle.sq_system.specs.Scopes.{signature_of}
+use Rattle.sq_system.specs.WellFormed.{is_environment}
 use Rattle.sq_ground.specs.Truth.{value, is_true}
 use Rattle.sq_ground.specs.GroundSorts.{has_ground_sort, IsMessage}
 use Rattle.sq_ground.specs.Theories.{Theory, world_at}

@@ -1,5 +1,5 @@
 -- A list of terms that was built one by one.
-use Rattle.std.proofs.Common.{◌≡◌, List, [], ◌∷◌, map, refl, ap, sym, ◌∙◌}
+use Rattle.std.proofs.Common.{◌≡◌, List, [], ◌∷◌, map, ap, sym, ◌∙◌}
 use Rattle.sq_term.specs.declared.term.Term.{Term}
 use Rattle.sq_term.specs.Syntax.{TermTree, TermTrees, nil, cons}
 use Rattle.sq_term.specs.View.{row, term_tree, term_trees}

@@ -1,59 +1,46 @@
 -- The laws of the substitutions, each an instance of the law of leaves or an induction of its own.
 use Rattle.std.proofs.Common.{◌≡◌, refl, sym, ap, ◌∙◌, subst, ℕ, zero, suc, ◌+◌, ◌-◌, ◌<◌, ◌≤◌}
-use Rattle.std.proofs.Common.{List, [], ◌∷◌, ◌++◌, length, map, get_or, Bool, true, false, cond}
-use Rattle.std.proofs.Common.{◌&&◌, not, nat_lt, nat_le, nat_eq, ◌==◌, Option, Some, None}
+use Rattle.std.proofs.Common.{List, [], ◌∷◌, length, map, get_or, Bool, true, false}
+use Rattle.std.proofs.Common.{◌&&◌, not, nat_lt, nat_le, nat_eq, Option, Some, None}
 use Rattle.std.proofs.Common.{slice_get, unwrap_or, arith}
+use Rattle.std.specs.Prelude.{if◌then◌else◌}
 use Rattle.std.proofs.lemmas.Bool.Decides.{nat_tests, Decides-eqb, Decides-ltb}
 use Rattle.sq_term.specs.declared.term.Idx.{Idx}
 use Rattle.sq_term.specs.declared.term.Idx.TheVariants.{Free, Bound}
 use Rattle.sq_term.specs.declared.term.Side.{Side}
-use Rattle.sq_term.specs.declared.term.Side.TheVariants.{Left, Right, Both}
 use Rattle.sq_term.specs.declared.model.Value.{Value}
-use Rattle.sq_term.specs.declared.model.Value.TheVariants.{Index as Number, Time as Moment}
+use Rattle.sq_term.specs.declared.model.Value.TheVariants.{Time as Moment}
 use Rattle.sq_term.specs.Arguments.{ArgTree, an_index, a_time}
-use Rattle.sq_term.specs.Lists.{fold_right}
 use Rattle.sq_term.specs.Closed.{idx_closed, ts_closed, is_closed}
-use Rattle.sq_term.specs.Syntax.{TsTree, free, bound, init, pred, action, TermTree, name, fun}
-use Rattle.sq_term.specs.Syntax.{macro, schema, diff, le, ts_eq, idx_eq, happens, all, some, find}
-use Rattle.sq_term.specs.Syntax.{TermTrees, nil, cons}
+use Rattle.sq_term.specs.Syntax.{TsTree, free, bound, TermTree, schema}
 use Rattle.sq_term.specs.TsEquality.{is_same_idx, is_same_idx-decides, is_same_ts_tree}
 use Rattle.sq_term.specs.TsEquality.{is_same_ts_tree-decides}
-use Rattle.sq_term.specs.Ground.{Ground, applied}
-use Rattle.sq_term.specs.GroundFormulas.{conditional, truth_of, conj, disj_of_all}
-use Rattle.sq_term.specs.Translate.{World, Times, Assignment, number_of, time_of, before}
-use Rattle.sq_term.specs.Translate.{is_position, is_upto, is_same_time, idx_value, idx_values}
-use Rattle.sq_term.specs.Translate.{macro_value, ts_value, domain, choices, translate}
-use Rattle.sq_term.specs.Translate.{translate_all}
-use Rattle.sq_subst.specs.Leaves.{Leaves, map_ts, map_term, map_terms}
-use Rattle.sq_subst.specs.Tests.{Tests, passes}
+use Rattle.sq_term.specs.Ground.{Ground}
+use Rattle.sq_term.specs.Translate.{World, Assignment, number_of, time_of}
+use Rattle.sq_term.specs.Translate.{idx_value}
+use Rattle.sq_term.specs.Translate.{ts_value, translate}
+use Rattle.sq_subst.specs.Leaves.{Leaves, keeping, map_ts}
+use Rattle.sq_subst.specs.Tests.{passes}
 use Rattle.sq_subst.specs.Substitution.{index_or, time_or, past, put_index, substitution, opened}
 use Rattle.sq_subst.specs.Substitution.{instance_of}
 use Rattle.sq_subst.specs.Renaming.{closing, close_index, exchanging, closed_over, idx_replaced}
-use Rattle.sq_subst.specs.Replacement.{ts_exchanged, ts_replaced, ts_all_replaced}
-use Rattle.sq_subst.specs.Projection.{side_of, sides_of, projected}
+use Rattle.sq_subst.specs.Replacement.{exchanging_times, ts_replaced}
+use Rattle.sq_subst.specs.Projection.{projecting, projected}
 use Rattle.sq_subst.specs.Laws.{arg_value, arg_closed, args_closed, terms_closed, is_read_on}
 use Rattle.sq_subst.specs.Laws.{is_other_idx, at_no_time, at_no_index, takes_index, takes_time}
 use Rattle.sq_subst.specs.Laws.{idx_takes, reached, instance_values}
-use Rattle.sq_term.proofs.Lists.{fold_same}
-use Rattle.sq_subst.proofs.LeavesLaw.{map_same, first_of_both, second_of_both, ts_law, leaves_law}
-use Rattle.sq_subst.proofs.TestLaws.{and_true, closed_tests, no_tests, both_tests, ts_closed-passes}
+use Rattle.sq_subst.proofs.LeavesLaw.{first_of_both, second_of_both, ts_law, leaves_law}
+use Rattle.sq_subst.proofs.TestLaws.{closed_tests, no_tests, both_tests, ts_closed-passes}
 use Rattle.sq_subst.proofs.TestLaws.{is_closed-passes, passes_both, passes_none}
 use Rattle.sq_subst.proofs.Fusion.{compose, fused, ts_kept, kept}
 
 abbrev nothing : Value
 nothing = Moment None
 
--- ---- a term without loose bound variables means the same under any binders
+no_some : {A B : Type 0} (u : A) → None ≡ Some u → B
+no_some u e = absurd (let f : None ≡ Some u = e in cc)
 
-abbrev keeping : Leaves
-keeping =
-    record {
-      index = λ m i. i;
-      free_time = λ m k. free k;
-      bound_time = λ m k. bound k;
-      message =
-          λ m k. schema k;
-    }
+-- ---- a term without loose bound variables means the same under any binders
 
 -- the first m values are the same
 abbrev AgreeBelow : ℕ → List Value → List Value → Type 0
@@ -86,17 +73,21 @@ module _ (w : World) (a : Assignment) where
       → ts_value w.times a bs t ≡ ts_value w.times a cs t
   free_ts bs cs t e =
       ts_law keeping closed_tests w a a AgreeBelow agree_pushed closed_idx_law
-      (λ m bs cs k r h. refl) closed_time_law (λ m bs cs k r h. refl) 0 bs cs t
+      (λ m bs cs k r h. refl) closed_time_law (λ m bs cs k r h. refl)
+      (λ m bs cs t u r h e. no_some u e) (λ m bs cs t u r h e. no_some u e) refl
+      0 bs cs t
       (none_below bs cs) (ts_closed-passes 0 t e)
       ∙ ap (ts_value w.times a cs)
       (ts_kept keeping closed_tests (λ m i h. refl) (λ m k h. refl) (λ m k h. refl)
-      (λ m k h. refl) 0 t (ts_closed-passes 0 t e))
+      (λ t. refl) 0 t (ts_closed-passes 0 t e))
 
   pub free_term : (bs cs : List Value) (t : TermTree) → is_closed 0 t ≡ true
       → translate w a bs t ≡ translate w a cs t
   free_term bs cs t e =
       leaves_law keeping closed_tests w a a AgreeBelow agree_pushed closed_idx_law
-      (λ m bs cs k r h. refl) closed_time_law (λ m bs cs k r h. refl) t 0 bs cs
+      (λ m bs cs k r h. refl) closed_time_law (λ m bs cs k r h. refl)
+      (λ m bs cs t u r h e. no_some u e) (λ m bs cs t u r h e. no_some u e) refl
+      t 0 bs cs
       (none_below bs cs) (is_closed-passes 0 t e)
       ∙ ap (translate w a cs)
       (kept keeping closed_tests (λ m i h. refl) (λ m k h. refl) (λ m k h. refl)
@@ -161,7 +152,7 @@ module _ (w : World) (a : Assignment) where
   index_case : (arg : ArgTree) → arg_closed arg ≡ true → (m k : ℕ) (bs cs : List Value)
       → Ends (arg_value w.times a arg) m bs cs → (b : Bool) → nat_le m k ≡ b → (n : ℕ) → k - m ≡ n
       → number_of (get_or bs k nothing)
-      ≡ idx_value a cs (index_or (cond b (slice_get (arg ∷ []) n) None) (Bound k))
+      ≡ idx_value a cs (index_or (if b then slice_get (arg ∷ []) n else None) (Bound k))
   index_case arg e m k bs cs h false q n d = let l : k < m =
       grind (arith, nat_tests) in ap number_of (h.below k l)
   index_case arg e m k bs cs h true q zero d = let l : m ≤ k =
@@ -189,7 +180,7 @@ module _ (w : World) (a : Assignment) where
   time_case : (arg : ArgTree) → arg_closed arg ≡ true → (m k : ℕ) (bs cs : List Value)
       → Ends (arg_value w.times a arg) m bs cs → (b : Bool) → nat_le m k ≡ b → (n : ℕ) → k - m ≡ n
       → time_of (get_or bs k nothing)
-      ≡ ts_value w.times a cs (time_or (cond b (slice_get (arg ∷ []) n) None) (bound k))
+      ≡ ts_value w.times a cs (time_or (if b then slice_get (arg ∷ []) n else None) (bound k))
   time_case arg e m k bs cs h false q n d = let l : k < m =
       grind (arith, nat_tests) in ap time_of (h.below k l)
   time_case arg e m k bs cs h true q zero d = let l : m ≤ k =
@@ -207,21 +198,9 @@ module _ (w : World) (a : Assignment) where
       (λ m bs cs k r h. refl)
       (λ m bs cs k r h. time_case arg e m k bs cs r (nat_le m k) refl (k - m) refl)
       (λ m bs cs k r h. refl)
+      (λ m bs cs t u r h e. no_some u e) (λ m bs cs t u r h e. no_some u e) refl
       body 0 (arg_value w.times a arg ∷ []) [] (ends_first (arg_value w.times a arg))
       (passes_none 0 body))
-
--- a find over parts that mean the same
-find_same : (w : World) (a : Assignment) (c : ℕ) (bs : List Value) (t t' u u' v v' : TermTree)
-    → ((xs : List Value) → translate w a xs t ≡ translate w a xs t')
-    → ((xs : List Value) → translate w a xs u ≡ translate w a xs u')
-    → translate w a bs v ≡ translate w a bs v'
-    → translate w a bs (find c t u v) ≡ translate w a bs (find c t' u' v')
-find_same w a c bs t t' u u' v v' e f g =
-    fold_same (λ xs r. conditional (translate w a xs t) (translate w a xs u) r)
-    (λ xs r. conditional (translate w a xs t') (translate w a xs u') r) (choices w.times c bs)
-    (λ xs i r. cc (e xs, f xs)) (translate w a bs v)
-    ∙ ap (λ b. fold_right (λ xs r. conditional (translate w a xs t') (translate w a xs u') r) b
-    (choices w.times c bs)) g
 
 -- ---- an index or a timestamp for another of the same value
 
@@ -232,7 +211,7 @@ module _ (w : World) (a : Assignment) where
   exchanged_case : (from to : Idx) → idx_closed 0 from ≡ true → idx_closed 0 to ≡ true
       → idx_value a [] from ≡ idx_value a [] to
       → (bs cs : List Value) (i : Idx) → bs ≡ cs → (b : Bool) → is_same_idx i from ≡ b
-      → idx_value a bs i ≡ idx_value a cs (cond b to i)
+      → idx_value a bs i ≡ idx_value a cs (if b then to else i)
   exchanged_case from to e f v bs cs i r true q =
       let is : i ≡ from = (is_same_idx-decides i from).0 q in
       ap (idx_value a bs) is ∙ (free_idx w a bs [] from e ∙ (v ∙ free_idx w a [] cs to f))
@@ -240,8 +219,8 @@ module _ (w : World) (a : Assignment) where
 
   pub replace_idx_law : (from to : Idx) → idx_closed 0 from ≡ true → idx_closed 0 to ≡ true
       → idx_value a [] from ≡ idx_value a [] to
-      → (bs : List Value) (t : TermTree) → translate w a bs (idx_replaced from to t)
-      ≡ translate w a bs t
+      → (bs : List Value) (t : TermTree)
+      → translate w a bs (idx_replaced from to t) ≡ translate w a bs t
   replace_idx_law from to e f v bs t =
       sym (leaves_law (exchanging from to) no_tests w a a AreSame
       (λ m bs cs x r. ap (λ xs. x ∷ xs) r)
@@ -249,104 +228,51 @@ module _ (w : World) (a : Assignment) where
       (λ m bs cs k r h. refl)
       (λ m bs cs k r h. ap (λ xs. time_of (get_or xs k nothing)) r)
       (λ m bs cs k r h. refl)
+      (λ m bs cs t u r h e. no_some u e) (λ m bs cs t u r h e. no_some u e) refl
       t 0 bs bs refl (passes_none 0 t))
 
-  module _ (from to : TsTree) (e : ts_closed 0 from ≡ true) (f : ts_closed 0 to ≡ true)
-      (v : ts_value w.times a [] from ≡ ts_value w.times a [] to) where
-    here_or : (bs : List Value) (t other : TsTree)
-        → ts_value w.times a bs other ≡ ts_value w.times a bs t → (b : Bool)
-        → is_same_ts_tree t from ≡ b
-        → ts_value w.times a bs (cond b to other) ≡ ts_value w.times a bs t
-    here_or bs t other h true q =
-        let is : t ≡ from = (is_same_ts_tree-decides t from).0 q in
-        free_ts w a bs [] to f
-        ∙ (sym v ∙ (free_ts w a [] bs from e ∙ sym (ap (ts_value w.times a bs) is)))
-    here_or bs t other h false q = h
+  exchanged_time : (from to : TsTree) → ts_closed 0 from ≡ true → ts_closed 0 to ≡ true
+      → ts_value w.times a [] from ≡ ts_value w.times a [] to
+      → (bs cs : List Value) (t u : TsTree) (b : Bool) → is_same_ts_tree t from ≡ b
+      → (if b then Some to else None) ≡ Some u
+      → ts_value w.times a bs t ≡ ts_value w.times a cs u
+  exchanged_time from to e f v bs cs t u true q h =
+      let is : t ≡ from = (is_same_ts_tree-decides t from).0 q in
+      let new : Some to ≡ Some u = h in
+      let there : to ≡ u = cc in
+      ap (ts_value w.times a bs) is
+      ∙ (free_ts w a bs [] from e
+      ∙ (v ∙ (free_ts w a [] cs to f ∙ ap (ts_value w.times a cs) there)))
+  exchanged_time from to e f v bs cs t u false q h = no_some u h
 
-    exchanged_law : (bs : List Value) (t : TsTree) → ts_value w.times a bs (ts_exchanged from to t)
-        ≡ ts_value w.times a bs t
-    exchanged_law bs (free k) =
-        here_or bs (free k) (free k) refl (is_same_ts_tree (free k) from) refl
-    exchanged_law bs (bound k) =
-        here_or bs (bound k) (bound k) refl (is_same_ts_tree (bound k) from) refl
-    exchanged_law bs init = here_or bs init init refl (is_same_ts_tree init from) refl
-    exchanged_law bs (pred t) =
-        here_or bs (pred t) (pred (ts_exchanged from to t)) (ap before (exchanged_law bs t))
-        (is_same_ts_tree (pred t) from) refl
-    exchanged_law bs (action n is) =
-        here_or bs (action n is) (action n is) refl (is_same_ts_tree (action n is) from) refl
+  pub replace_ts_law : (from to : TsTree) → ts_closed 0 from ≡ true → ts_closed 0 to ≡ true
+      → ts_value w.times a [] from ≡ ts_value w.times a [] to
+      → (bs : List Value) (t : TermTree)
+      → translate w a bs (ts_replaced from to t) ≡ translate w a bs t
+  replace_ts_law from to e f v bs t =
+      sym (leaves_law (exchanging_times from to) no_tests w a a AreSame
+      (λ m bs cs x r. ap (λ xs. x ∷ xs) r)
+      (λ m bs cs i r h. ap (λ xs. idx_value a xs i) r)
+      (λ m bs cs k r h. refl)
+      (λ m bs cs k r h. ap (λ xs. time_of (get_or xs k nothing)) r)
+      (λ m bs cs k r h. refl)
+      (λ m bs cs t u r h p. exchanged_time from to e f v bs cs t u (is_same_ts_tree t from) refl p)
+      (λ m bs cs t u r h e. no_some u e) refl
+      t 0 bs bs refl (passes_none 0 t))
 
-    mutual
-      pub replace_ts_law : (bs : List Value) (t : TermTree)
-          → translate w a bs (ts_replaced from to t) ≡ translate w a bs t
-      replace_ts_law bs (name n is) = refl
-      replace_ts_law bs (fun g is ts) = ap (applied g (idx_values a bs is)) (replace_all_law bs ts)
-      replace_ts_law bs (macro x t) = ap (w.values (macro_value a bs x)) (exchanged_law bs t)
-      replace_ts_law bs (schema k) = refl
-      replace_ts_law bs (diff t u) = cc (replace_ts_law bs t, replace_ts_law bs u)
-      replace_ts_law bs (le t s) = cc (exchanged_law bs t, exchanged_law bs s)
-      replace_ts_law bs (ts_eq t s) = cc (exchanged_law bs t, exchanged_law bs s)
-      replace_ts_law bs (idx_eq i j) = refl
-      replace_ts_law bs (happens t) = ap (λ y. truth_of (is_position y)) (exchanged_law bs t)
-      replace_ts_law bs (all s t) =
-          ap conj (map_same _ _ (domain w.times s) (λ x. replace_ts_law (x ∷ bs) t))
-      replace_ts_law bs (some s t) =
-          ap disj_of_all (map_same _ _ (domain w.times s) (λ x. replace_ts_law (x ∷ bs) t))
-      replace_ts_law bs (find c t u v) =
-          find_same w a c bs (ts_replaced from to t) t (ts_replaced from to u) u
-          (ts_replaced from to v) v (λ xs. replace_ts_law xs t) (λ xs. replace_ts_law xs u)
-          (replace_ts_law bs v)
-
-      replace_all_law : (bs : List Value) (ts : TermTrees)
-          → translate_all w a bs (ts_all_replaced from to ts) ≡ translate_all w a bs ts
-      replace_all_law bs nil = refl
-      replace_all_law bs (cons t ts) = cc (replace_ts_law bs t, replace_all_law bs ts)
-
--- ---- one side
-
-right_is : (b : Bool) → not b ≡ true → b ≡ false
-right_is true e = cc
-right_is false e = refl
-
-module _ (w : World) (a : Assignment) where
-  side_case : (b : Bool) (bs : List Value) (t u t' u' : TermTree)
-      → translate w a bs t' ≡ translate w a bs t → translate w a bs u' ≡ translate w a bs u
-      → translate w a bs (cond b t' u') ≡ cond b (translate w a bs t) (translate w a bs u)
-  side_case true bs t u t' u' h g = h
-  side_case false bs t u t' u' h g = g
-
-  mutual
-    pub side_law : (bs : List Value) (t : TermTree)
-        → translate w a bs (side_of w.left t) ≡ translate w a bs t
-    side_law bs (name n is) = refl
-    side_law bs (fun g is ts) = ap (applied g (idx_values a bs is)) (sides_law bs ts)
-    side_law bs (macro x t) = refl
-    side_law bs (schema k) = refl
-    side_law bs (diff t u) =
-        side_case w.left bs t u (side_of w.left t) (side_of w.left u) (side_law bs t)
-        (side_law bs u)
-    side_law bs (le t s) = refl
-    side_law bs (ts_eq t s) = refl
-    side_law bs (idx_eq i j) = refl
-    side_law bs (happens t) = refl
-    side_law bs (all s t) = ap conj (map_same _ _ (domain w.times s) (λ x. side_law (x ∷ bs) t))
-    side_law bs (some s t) =
-        ap disj_of_all (map_same _ _ (domain w.times s) (λ x. side_law (x ∷ bs) t))
-    side_law bs (find c t u v) =
-        find_same w a c bs (side_of w.left t) t (side_of w.left u) u (side_of w.left v) v
-        (λ xs. side_law xs t) (λ xs. side_law xs u) (side_law bs v)
-
-    sides_law : (bs : List Value) (ts : TermTrees) → translate_all w a bs (sides_of w.left ts)
-        ≡ translate_all w a bs ts
-    sides_law bs nil = refl
-    sides_law bs (cons t ts) = cc (side_law bs t, sides_law bs ts)
+  -- ---- one side
 
   pub project_law : (bs : List Value) (side : Side) (t : TermTree) → is_read_on side w ≡ true
       → translate w a bs (projected side t) ≡ translate w a bs t
-  project_law bs Left t e = ap (λ b. translate w a bs (side_of b t)) (sym e) ∙ side_law bs t
-  project_law bs Right t e = ap (λ b. translate w a bs (side_of b t)) (sym (right_is w.left e))
-      ∙ side_law bs t
-  project_law bs Both t e = refl
+  project_law bs side t e =
+      sym (leaves_law (projecting side) no_tests w a a AreSame
+      (λ m bs cs x r. ap (λ xs. x ∷ xs) r)
+      (λ m bs cs i r h. ap (λ xs. idx_value a xs i) r)
+      (λ m bs cs k r h. refl)
+      (λ m bs cs k r h. ap (λ xs. time_of (get_or xs k nothing)) r)
+      (λ m bs cs k r h. refl)
+      (λ m bs cs t u r h e. no_some u e) (λ m bs cs t u r h e. no_some u e) e
+      t 0 bs bs refl (passes_none 0 t))
 
 -- ---- all at once
 
@@ -384,7 +310,7 @@ module _ (w : World) (a : Assignment) (vars : List ArgTree) (closed : args_close
       ap time_of (map_at (arg_value w.times a) vars k nothing (a_time t) e)
       ∙ free_ts w a [] cs t (arg_closed_at vars k (a_time t) closed e)
 
-  no_outer : (b : Bool) (n : ℕ) → cond b (slice_get {X = ArgTree} [] n) None ≡ None
+  no_outer : (b : Bool) (n : ℕ) → (if b then slice_get {X = ArgTree} [] n else None) ≡ None
   no_outer true n = refl
   no_outer false n = refl
 
@@ -419,6 +345,7 @@ module _ (w : World) (a : Assignment) (vars : List ArgTree) (closed : args_close
       ∙ sym (ap (λ o. ts_value w.times a cs (time_or o (bound k)))
       (no_outer (nat_le m k) (k - m))))
       (λ m bs cs k r q. message_at cs schemas k _ (schema k) h q)
+      (λ m bs cs t u r h e. no_some u e) (λ m bs cs t u r h e. no_some u e) refl
       t 0 [] [] refl p)
 
 -- ---- a variable closed and opened again
@@ -427,13 +354,13 @@ same_number : (k x : ℕ) → nat_eq k x ≡ true → k ≡ x
 same_number k x e = (Decides-eqb k x).0 e
 
 opened_again : (m : ℕ) (v : ArgTree) (b : Bool) → nat_le m m ≡ b → (n : ℕ) → m - m ≡ n
-    → cond b (slice_get (v ∷ []) n) None ≡ Some v
+    → (if b then slice_get (v ∷ []) n else None) ≡ Some v
 opened_again m v true e zero d = refl
 opened_again m v true e (suc n) d = absurd (omega arith)
 opened_again m v false e n d = absurd (grind (arith, nat_tests))
 
 not_reached : (m k : ℕ) (v : ArgTree) → nat_lt k m ≡ true → (b : Bool) → nat_le m k ≡ b → (n : ℕ)
-    → cond b (slice_get (v ∷ []) n) None ≡ None
+    → (if b then slice_get (v ∷ []) n else None) ≡ None
 not_reached m k v h true e n = absurd (grind (arith, nat_tests))
 not_reached m k v h false e n = refl
 
@@ -452,7 +379,7 @@ module _ (x : ℕ) where
       ap (λ o. index_or o (Bound k)) (not_reached m k v h (nat_le m k) refl (k - m))
 
   free_index_again : (m k : ℕ) (b : Bool) → nat_eq k x ≡ b
-      → put_index [] (an_index (Free x) ∷ []) m (cond b (Bound m) (Free k)) ≡ Free k
+      → put_index [] (an_index (Free x) ∷ []) m (if b then Bound m else Free k) ≡ Free k
   free_index_again m k true e =
       ap (λ o. index_or o (Bound m))
       (opened_again m (an_index (Free x)) (nat_le m m) refl (m - m) refl)
@@ -460,12 +387,13 @@ module _ (x : ℕ) where
   free_index_again m k false e = refl
 
   other_index : (v : ArgTree) (m k : ℕ) (b : Bool) → not b ≡ true → nat_eq k x ≡ b
-      → put_index [] (v ∷ []) m (cond b (Bound m) (Free k)) ≡ Free k
+      → put_index [] (v ∷ []) m (if b then Bound m else Free k) ≡ Free k
   other_index v m k true n e = cc
   other_index v m k false n e = refl
 
   free_time_again : (m k : ℕ) (b : Bool) → nat_eq k x ≡ b
-      → map_ts (substitution [] (a_time (free x) ∷ []) []) m (cond b (bound m) (free k)) ≡ free k
+      → map_ts (substitution [] (a_time (free x) ∷ []) []) m (if b then bound m else free k)
+      ≡ free k
   free_time_again m k true e =
       ap (λ o. time_or o (bound m))
       (opened_again m (a_time (free x)) (nat_le m m) refl (m - m) refl)
@@ -473,7 +401,7 @@ module _ (x : ℕ) where
   free_time_again m k false e = refl
 
   other_time : (v : ArgTree) (m k : ℕ) (b : Bool) → not b ≡ true → nat_eq k x ≡ b
-      → map_ts (substitution [] (v ∷ []) []) m (cond b (bound m) (free k)) ≡ free k
+      → map_ts (substitution [] (v ∷ []) []) m (if b then bound m else free k) ≡ free k
   other_time v m k true n e = cc
   other_time v m k false n e = refl
 

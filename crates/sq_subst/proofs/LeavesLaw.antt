@@ -1,12 +1,15 @@
--- One law for all maps of variables: where each variable keeps its value, so does the term.
+-- One law of the walk: where each thing that is put in has the value of what it stands for, the
+-- term keeps its meaning.
 use Rattle.std.proofs.Common.{◌≡◌, refl, sym, ap, ◌∙◌, subst, ℕ, zero, suc, ◌+◌, List, [], ◌∷◌}
-use Rattle.std.proofs.Common.{◌++◌, length, map, flat_map, get_or, Bool, true, false, cond, ◌&&◌}
-use Rattle.std.proofs.Common.{Option, Some, None, arith}
-use Rattle.sq_base.specs.declared.sort.Sort.{Sort}
+use Rattle.std.proofs.Common.{◌++◌, length, map, flat_map, get_or, Bool, true, false, ◌&&◌}
+use Rattle.std.proofs.Common.{Option, Some, None, not, arith}
+use Rattle.std.specs.Prelude.{unwrap_or, if◌then◌else◌}
 use Rattle.sq_base.specs.declared.sort.Sort.TheVariants.{Index}
 use Rattle.sq_term.specs.declared.term.Idx.{Idx}
+use Rattle.sq_term.specs.declared.term.Side.{Side}
+use Rattle.sq_term.specs.declared.term.Side.TheVariants.{Left, Right, Both}
 use Rattle.sq_term.specs.declared.model.Value.{Value}
-use Rattle.sq_term.specs.declared.model.Value.TheVariants.{Index as Number, Time as Moment}
+use Rattle.sq_term.specs.declared.model.Value.TheVariants.{Time as Moment}
 use Rattle.sq_term.specs.Lists.{Each, fold_right}
 use Rattle.sq_term.proofs.Lists.{fold_same}
 use Rattle.sq_term.proofs.Members.{each-flat_map, each_single}
@@ -15,10 +18,12 @@ use Rattle.sq_term.specs.Syntax.{macro, schema, diff, le, ts_eq, idx_eq, happens
 use Rattle.sq_term.specs.Syntax.{TermTrees, nil, cons}
 use Rattle.sq_term.specs.Ground.{Ground, named, atom}
 use Rattle.sq_term.specs.GroundFormulas.{conditional, truth_of, conj, disj_of_all}
-use Rattle.sq_term.specs.Translate.{World, Times, Assignment, number_of, time_of, before}
+use Rattle.sq_term.specs.Translate.{World, Times, Assignment, time_of, before}
 use Rattle.sq_term.specs.Translate.{is_position, idx_value, idx_values, macro_value, ts_value}
 use Rattle.sq_term.specs.Translate.{domain, choices, translate, translate_all}
-use Rattle.sq_subst.specs.Leaves.{Leaves, map_ts, map_term, map_terms}
+use Rattle.sq_subst.specs.Leaves.{Leaves, on_side, ts_below, map_ts, term_below, map_term}
+use Rattle.sq_subst.specs.Leaves.{map_terms}
+use Rattle.sq_subst.specs.Laws.{is_read_on}
 use Rattle.sq_subst.specs.Tests.{Tests, indices_pass, ts_passes, passes, all_pass}
 
 -- ---- lists
@@ -96,6 +101,18 @@ second_of_both false q h = cc
 
 -- ---- the law
 
+-- on the side that is read, what stays of a difference means what the difference does
+stays : (w : World) (c : Assignment) (cs : List Value) (s : Side) (t u : Ground) (x y : TermTree)
+    → is_read_on s w ≡ true → t ≡ translate w c cs x → u ≡ translate w c cs y
+    → (if w.left then t else u) ≡ translate w c cs (on_side s x y)
+stays w c cs Left t u x y e f g = ap (λ b. if b then t else u) e ∙ f
+stays w c cs Right t u x y e f g = ap (λ b. if b then t else u) (is_right w.left e) ∙ g
+  where
+    is_right : (b : Bool) → not b ≡ true → b ≡ false
+    is_right true h = cc
+    is_right false h = refl
+stays w c cs Both t u x y e f g = cc (f, g)
+
 module _ (L : Leaves) (P : Tests) (w : World) (a c : Assignment)
     (Rel : ℕ → List Value → List Value → Type 0)
     (push : (m : ℕ) (bs cs : List Value) (x : Value) → Rel m bs cs → Rel (m + 1) (x ∷ bs) (x ∷ cs))
@@ -106,7 +123,12 @@ module _ (L : Leaves) (P : Tests) (w : World) (a c : Assignment)
     (bound_time : (m : ℕ) (bs cs : List Value) (k : ℕ) → Rel m bs cs → P.bound_time m k ≡ true
     → time_of (get_or bs k (Moment None)) ≡ ts_value w.times c cs (L.bound_time m k))
     (message : (m : ℕ) (bs cs : List Value) (k : ℕ) → Rel m bs cs → P.message m k ≡ true
-    → get_or a.schemas k (atom k) ≡ translate w c cs (L.message m k)) where
+    → get_or a.schemas k (atom k) ≡ translate w c cs (L.message m k))
+    (time : (m : ℕ) (bs cs : List Value) (t u : TsTree) → Rel m bs cs → ts_passes P m t ≡ true
+    → L.time t ≡ Some u → ts_value w.times a bs t ≡ ts_value w.times c cs u)
+    (term : (m : ℕ) (bs cs : List Value) (t u : TermTree) → Rel m bs cs → passes P m t ≡ true
+    → L.term t ≡ Some u → translate w a bs t ≡ translate w c cs u)
+    (side : is_read_on L.side w ≡ true) where
   push_all : (es : List Value) (m : ℕ) (bs cs : List Value) → Rel m bs cs
       → Rel (m + length es) (es ++ bs) (es ++ cs)
   push_all [] m bs cs r = subst (λ k. Rel k bs cs) (omega arith) r
@@ -118,90 +140,112 @@ module _ (L : Leaves) (P : Tests) (w : World) (a c : Assignment)
       → indices_pass P m is ≡ true → idx_values a bs is ≡ idx_values c cs (map (L.index m) is)
   indices_law m bs cs [] r h = refl
   indices_law m bs cs (i ∷ is) r h =
-      cc (
-        index m bs cs i r (first_of_both _ _ h),
-        indices_law m bs cs is r
-            (second_of_both (P.index m i) _ h),
-      )
+      let first = index m bs cs i r (first_of_both _ _ h) in
+      cc (first, indices_law m bs cs is r (second_of_both (P.index m i) _ h))
+
+  -- what is put in the place of the whole, and what stands below
+  ts_put : (m : ℕ) (bs cs : List Value) (t : TsTree) (o : Option TsTree) → Rel m bs cs
+      → ts_passes P m t ≡ true → L.time t ≡ o
+      → ts_value w.times a bs t ≡ ts_value w.times c cs (ts_below L m t)
+      → ts_value w.times a bs t ≡ ts_value w.times c cs (unwrap_or o (ts_below L m t))
+  ts_put m bs cs t (Some u) r h e f = time m bs cs t u r h e
+  ts_put m bs cs t None r h e f = f
+
+  ts_below_law : (m : ℕ) (bs cs : List Value) (t : TsTree) → Rel m bs cs → ts_passes P m t ≡ true
+      → ts_value w.times a bs t ≡ ts_value w.times c cs (ts_below L m t)
+  ts_below_law m bs cs (free k) r h = free_time m bs cs k r h
+  ts_below_law m bs cs (bound k) r h = bound_time m bs cs k r h
+  ts_below_law m bs cs init r h = refl
+  ts_below_law m bs cs (pred t) r h =
+      ap before (ts_put m bs cs t (L.time t) r h refl (ts_below_law m bs cs t r h))
+  ts_below_law m bs cs (action n is) r h = ap (w.times.place n) (indices_law m bs cs is r h)
 
   pub ts_law : (m : ℕ) (bs cs : List Value) (t : TsTree) → Rel m bs cs → ts_passes P m t ≡ true
       → ts_value w.times a bs t ≡ ts_value w.times c cs (map_ts L m t)
-  ts_law m bs cs (free k) r h = free_time m bs cs k r h
-  ts_law m bs cs (bound k) r h = bound_time m bs cs k r h
-  ts_law m bs cs init r h = refl
-  ts_law m bs cs (pred t) r h = ap before (ts_law m bs cs t r h)
-  ts_law m bs cs (action n is) r h = ap (w.times.place n) (indices_law m bs cs is r h)
+  ts_law m bs cs t r h = ts_put m bs cs t (L.time t) r h refl (ts_below_law m bs cs t r h)
+
+  term_put : (m : ℕ) (bs cs : List Value) (t : TermTree) (o : Option TermTree) → Rel m bs cs
+      → passes P m t ≡ true → L.term t ≡ o
+      → translate w a bs t ≡ translate w c cs (term_below L m t)
+      → translate w a bs t ≡ translate w c cs (unwrap_or o (term_below L m t))
+  term_put m bs cs t (Some u) r h e f = term m bs cs t u r h e
+  term_put m bs cs t None r h e f = f
+
+  -- a part of a term from what holds of it where nothing stands in its place
+  part : (m : ℕ) (bs cs : List Value) (t : TermTree) → Rel m bs cs → passes P m t ≡ true
+      → translate w a bs t ≡ translate w c cs (term_below L m t)
+      → translate w a bs t ≡ translate w c cs (map_term L m t)
+  part m bs cs t r h f = term_put m bs cs t (L.term t) r h refl f
+
+  both_times : (m : ℕ) (bs cs : List Value) (t s : TsTree) → Rel m bs cs
+      → (ts_passes P m t && ts_passes P m s) ≡ true
+      → (ts_value w.times a bs t ≡ ts_value w.times c cs (map_ts L m t))
+      × (ts_value w.times a bs s ≡ ts_value w.times c cs (map_ts L m s))
+  both_times m bs cs t s r h = (
+    ts_law m bs cs t r (first_of_both _ _ h),
+    ts_law m bs cs s r (second_of_both (ts_passes P m t) _ h),
+  )
 
   mutual
-    pub leaves_law : (t : TermTree) (m : ℕ) (bs cs : List Value) → Rel m bs cs → passes P m t ≡ true
-        → translate w a bs t ≡ translate w c cs (map_term L m t)
-    leaves_law (name n is) m bs cs r h = ap (named n) (indices_law m bs cs is r h)
-    leaves_law (fun f is ts) m bs cs r h =
-        cc (
-          indices_law m bs cs is r (first_of_both _ _ h),
-          all_leaves_law ts m bs cs r
-              (second_of_both (indices_pass P m is) _ h),
-        )
-    leaves_law (macro x t) m bs cs r h = ap (w.values (macro_value a bs x)) (ts_law m bs cs t r h)
-    leaves_law (schema k) m bs cs r h = message m bs cs k r h
-    leaves_law (diff x y) m bs cs r h =
-        cc (
-          leaves_law x m bs cs r (first_of_both _ _ h),
-          leaves_law y m bs cs r
-              (second_of_both (passes P m x) _ h),
-        )
-    leaves_law (le t s) m bs cs r h =
-        cc (
-          ts_law m bs cs t r (first_of_both _ _ h),
-          ts_law m bs cs s r
-              (second_of_both (ts_passes P m t) _ h),
-        )
-    leaves_law (ts_eq t s) m bs cs r h =
-        cc (
-          ts_law m bs cs t r (first_of_both _ _ h),
-          ts_law m bs cs s r
-              (second_of_both (ts_passes P m t) _ h),
-        )
-    leaves_law (idx_eq i j) m bs cs r h =
-        cc (
-          index m bs cs i r (first_of_both _ _ h),
-          index m bs cs j r
-              (second_of_both (P.index m i) _ h),
-        )
-    leaves_law (happens t) m bs cs r h = ap (λ y. truth_of (is_position y)) (ts_law m bs cs t r h)
-    leaves_law (all s body) m bs cs r h =
-        ap conj (map_same _ _ (domain w.times s)
-        (λ x. leaves_law body (m + 1) (x ∷ bs) (x ∷ cs) (push m bs cs x r) h))
-    leaves_law (some s body) m bs cs r h =
-        ap disj_of_all
-        (map_same _ _ (domain w.times s)
-        (λ x. leaves_law body (m + 1) (x ∷ bs) (x ∷ cs) (push m bs cs x r) h))
-    leaves_law (find k test found other) m bs cs r h =
-        let of_test = first_of_both (passes P (m + k) test) _ h in
+    below_law : (t : TermTree) (m : ℕ) (bs cs : List Value) → Rel m bs cs → passes P m t ≡ true
+        → translate w a bs t ≡ translate w c cs (term_below L m t)
+    below_law (name n is) m bs cs r h = ap (named n) (indices_law m bs cs is r h)
+    below_law (fun f is ts) m bs cs r h =
+        let of_indices = indices_law m bs cs is r (first_of_both _ _ h) in
+        cc (of_indices, all_leaves_law ts m bs cs r (second_of_both (indices_pass P m is) _ h))
+    below_law (macro x t) m bs cs r h = ap (w.values (macro_value a bs x)) (ts_law m bs cs t r h)
+    below_law (schema k) m bs cs r h = message m bs cs k r h
+    below_law (diff x y) m bs cs r h =
+        let p = first_of_both (passes P m x) (passes P m y) h in
+        let q = second_of_both (passes P m x) (passes P m y) h in
+        stays w c cs L.side (translate w a bs x) (translate w a bs y) (map_term L m x)
+        (map_term L m y) side
+        (part m bs cs x r p (below_law x m bs cs r p))
+        (part m bs cs y r q (below_law y m bs cs r q))
+    below_law (le t s) m bs cs r h = let e = both_times m bs cs t s r h in cc (e.0, e.1)
+    below_law (ts_eq t s) m bs cs r h = let e = both_times m bs cs t s r h in cc (e.0, e.1)
+    below_law (idx_eq i j) m bs cs r h =
+        let first = index m bs cs i r (first_of_both _ _ h) in
+        cc (first, index m bs cs j r (second_of_both (P.index m i) _ h))
+    below_law (happens t) m bs cs r h = ap (λ y. truth_of (is_position y)) (ts_law m bs cs t r h)
+    below_law (all s body) m bs cs r h =
+        ap conj (map_same _ _ (domain w.times s) (λ x.
+        let d = push m bs cs x r in
+        part (m + 1) (x ∷ bs) (x ∷ cs) body d h
+        (below_law body (m + 1) (x ∷ bs) (x ∷ cs) d h)))
+    below_law (some s body) m bs cs r h =
+        ap disj_of_all (map_same _ _ (domain w.times s) (λ x.
+        let d = push m bs cs x r in
+        part (m + 1) (x ∷ bs) (x ∷ cs) body d h
+        (below_law body (m + 1) (x ∷ bs) (x ∷ cs) d h)))
+    below_law (find k test found other) m bs cs r h =
+        let p = first_of_both (passes P (m + k) test) _ h in
         let rest = second_of_both (passes P (m + k) test) _ h in
-        let of_found = first_of_both (passes P (m + k) found) _ rest in
-        let of_other = second_of_both (passes P (m + k) found) _ rest in
+        let q = first_of_both (passes P (m + k) found) _ rest in
+        let o = second_of_both (passes P (m + k) found) _ rest in
         find_law w.times k bs cs
         (λ xs r. conditional (translate w a xs test) (translate w a xs found) r)
         (λ xs r. conditional (translate w c xs (map_term L (m + k) test))
         (translate w c xs (map_term L (m + k) found)) r)
         (translate w a bs other) (translate w c cs (map_term L m other))
         (λ es e z.
-        let deep : Rel (m + k) (es ++ bs) (es ++ cs) =
+        let d : Rel (m + k) (es ++ bs) (es ++ cs) =
         subst (λ n. Rel (m + n) (es ++ bs) (es ++ cs)) e (push_all es m bs cs r) in
-        cc (
-          leaves_law test (m + k) (es ++ bs) (es ++ cs) deep of_test,
-          leaves_law found (m + k)
-              (es ++ bs) (es ++ cs) deep of_found,
-        ))
-        (leaves_law other m bs cs r of_other)
+        let f = part (m + k) (es ++ bs) (es ++ cs) test d p
+        (below_law test (m + k) (es ++ bs) (es ++ cs) d p) in
+        let g = part (m + k) (es ++ bs) (es ++ cs) found d q
+        (below_law found (m + k) (es ++ bs) (es ++ cs) d q) in
+        cc (f, g))
+        (part m bs cs other r o (below_law other m bs cs r o))
 
     pub all_leaves_law : (ts : TermTrees) (m : ℕ) (bs cs : List Value) → Rel m bs cs
         → all_pass P m ts ≡ true → translate_all w a bs ts ≡ translate_all w c cs (map_terms L m ts)
     all_leaves_law nil m bs cs r h = refl
     all_leaves_law (cons t ts) m bs cs r h =
-        cc (
-          leaves_law t m bs cs r (first_of_both _ _ h),
-          all_leaves_law ts m bs cs r
-              (second_of_both (passes P m t) _ h),
-        )
+        let p = first_of_both (passes P m t) _ h in
+        let e = part m bs cs t r p (below_law t m bs cs r p) in
+        cc (e, all_leaves_law ts m bs cs r (second_of_both (passes P m t) _ h))
+
+  pub leaves_law : (t : TermTree) (m : ℕ) (bs cs : List Value) → Rel m bs cs → passes P m t ≡ true
+      → translate w a bs t ≡ translate w c cs (map_term L m t)
+  leaves_law t m bs cs r h = part m bs cs t r h (below_law t m bs cs r h)

@@ -1,9 +1,9 @@
 pub mod Rooms
 pub mod Built
 pub mod SameIndices
-pub mod Replaced
-pub mod CallRules
+pub mod InPlace
 pub mod LeavesLaw
 pub mod TestLaws
 pub mod Fusion
+pub mod Stays
 pub mod Laws

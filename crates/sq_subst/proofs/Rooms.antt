@@ -1,17 +1,16 @@
 -- Sizes and depths are at least 1, and a result has room exactly where both are within their
 -- limits.
-use Rattle.std.proofs.Common.{◌≡◌, ◌≤◌, ◌<◌, ◌+◌, ℕ, min, List, [], ◌∷◌, length, refl, arith, Bool}
-use Rattle.std.proofs.Common.{true, false, cond, ◌&&◌, nat_le, Result, Ok, Err}
+use Rattle.std.proofs.Common.{◌≡◌, ◌≤◌, ◌<◌, ℕ, min, List, [], ◌∷◌, length, refl, arith}
+use Rattle.std.proofs.Common.{Ok, Err}
 use Rattle.std.proofs.lemmas.List.{length-map}
 use Rattle.std.proofs.lemmas.Bool.Decides.{nat_tests}
 use Rattle.sq_term.specs.declared.term.Idx.{Idx}
 use Rattle.sq_term.specs.declared.term.SizeFault.TheVariants.{TooLarge}
 use Rattle.sq_term.specs.Syntax.{TsTree, free, bound, init, pred, action, TermTree, name, fun}
 use Rattle.sq_term.specs.Syntax.{macro, schema, diff, le, ts_eq, idx_eq, happens, all, some, find}
-use Rattle.sq_term.specs.Syntax.{TermTrees, nil, cons}
 use Rattle.sq_term.specs.Measure.{indices_depth, ts_size, ts_depth, size, depth}
 use Rattle.sq_term.proofs.Views.{tree_rules, open_rules}
-use Rattle.sq_subst.specs.Room.{fits, within}
+use Rattle.sq_subst.specs.Room.{within}
 
 pub indices_depth_is : (is : List Idx) → indices_depth is ≡ min 1 (length is)
 indices_depth_is [] = refl
@@ -78,3 +77,5 @@ pub ruleset room_rules = (
 )
 
 pub ruleset put_rules = (open_rules, length-map)
+
+pub ruleset call_rules = (within-fits, within-passes)

@@ -1,5 +1,5 @@
 -- Two tests at once, and closedness as a test of each variable.
-use Rattle.std.proofs.Common.{◌≡◌, refl, subst, ℕ, suc, ◌+◌, Bool, true, false, ◌&&◌, nat_lt, List}
+use Rattle.std.proofs.Common.{◌≡◌, refl, subst, ℕ, suc, ◌+◌, Bool, true, ◌&&◌, nat_lt, List}
 use Rattle.std.proofs.Common.{[], ◌∷◌, arith}
 use Rattle.sq_term.specs.declared.term.Idx.{Idx}
 use Rattle.sq_term.specs.Syntax.{TsTree, free, bound, init, pred, action, TermTree, name, fun}
@@ -167,7 +167,7 @@ module _ (P Q : Tests) where
         (all_pass R m ts) (passes_both m t) (all_pass_both m ts) h g
 
 -- what is asked of no variable holds
-indices_free : (m : ℕ) (is : List Idx) → indices_pass no_tests m is ≡ true
+pub indices_free : (m : ℕ) (is : List Idx) → indices_pass no_tests m is ≡ true
 indices_free m [] = refl
 indices_free m (i ∷ is) = indices_free m is
 

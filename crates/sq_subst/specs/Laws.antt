@@ -10,7 +10,6 @@ use Rattle.sq_term.specs.declared.model.Value.TheVariants.{Index as Number, Time
 use Rattle.sq_term.specs.Syntax.{TsTree, free, TermTree}
 use Rattle.sq_term.specs.Arguments.{ArgTree, an_index, a_time}
 use Rattle.sq_term.specs.Closed.{idx_closed, ts_closed, is_closed}
-use Rattle.sq_term.specs.Ground.{Ground}
 use Rattle.sq_term.specs.Translate.{World, Times, Assignment, idx_value, ts_value, translate}
 use Rattle.sq_subst.specs.Tests.{Tests, passes}
 use Rattle.sq_subst.specs.Substitution.{opened, instance_of}

@@ -1,8 +1,11 @@
--- One walk that puts something in the place of each variable, with the number of binders around it.
--- Opening, closing, renaming
--- and instances are cases of it.
-use Rattle.std.specs.Prelude.{ℕ, suc, ◌+◌, map}
+-- One walk over a term: what stands in the place of each variable, with the number of binders
+-- around it, of a timestamp or of a term, and which sides of a difference stay. What was put in is
+-- not looked at again. Opening, closing, renaming, instances, replacing and projections are its
+-- cases.
+use Rattle.std.specs.Prelude.{ℕ, ◌+◌, map, Option, None, unwrap_or}
 use Rattle.sq_term.specs.declared.term.Idx.{Idx}
+use Rattle.sq_term.specs.declared.term.Side.{Side}
+use Rattle.sq_term.specs.declared.term.Side.TheVariants.{Left, Right, Both}
 use Rattle.sq_term.specs.Macros.{macro_indices, macro_at}
 use Rattle.sq_term.specs.Syntax.{TsTree, free, bound, init, pred, action, TermTree, name, fun}
 use Rattle.sq_term.specs.Syntax.{macro, schema, diff, le, ts_eq, idx_eq, happens, all, some, find}
@@ -13,31 +16,64 @@ pub record Leaves : Type 0 where
   pub free_time : ℕ → ℕ → TsTree
   pub bound_time : ℕ → ℕ → TsTree
   pub message : ℕ → ℕ → TermTree
+  pub time : TsTree → Option TsTree
+  pub term : TermTree → Option TermTree
+  pub side : Side
+
+abbrev pub on_side : Side → TermTree → TermTree → TermTree
+on_side Left a b = a
+on_side Right a b = b
+on_side Both a b = diff a b
 
 module _ (L : Leaves) where
+  -- where nothing stands in the place of the whole
+  abbrev pub ts_below : ℕ → TsTree → TsTree
+  ts_below m (free k) = L.free_time m k
+  ts_below m (bound k) = L.bound_time m k
+  ts_below m init = init
+  ts_below m (pred t) = pred (unwrap_or (L.time t) (ts_below m t))
+  ts_below m (action n is) = action n (map (L.index m) is)
+
   abbrev pub map_ts : ℕ → TsTree → TsTree
-  map_ts m (free k) = L.free_time m k
-  map_ts m (bound k) = L.bound_time m k
-  map_ts m init = init
-  map_ts m (pred t) = pred (map_ts m t)
-  map_ts m (action n is) = action n (map (L.index m) is)
+  map_ts m t = unwrap_or (L.time t) (ts_below m t)
 
   abbrev mutual
-    pub map_term : ℕ → TermTree → TermTree
-    map_term m (name n is) = name n (map (L.index m) is)
-    map_term m (fun f is ts) = fun f (map (L.index m) is) (map_terms m ts)
-    map_term m (macro x t) = macro (macro_at x (map (L.index m) (macro_indices x))) (map_ts m t)
-    map_term m (schema k) = L.message m k
-    map_term m (diff a b) = diff (map_term m a) (map_term m b)
-    map_term m (le t s) = le (map_ts m t) (map_ts m s)
-    map_term m (ts_eq t s) = ts_eq (map_ts m t) (map_ts m s)
-    map_term m (idx_eq i j) = idx_eq (L.index m i) (L.index m j)
-    map_term m (happens t) = happens (map_ts m t)
-    map_term m (all s body) = all s (map_term (m + 1) body)
-    map_term m (some s body) = some s (map_term (m + 1) body)
-    map_term m (find c test found other) =
-        find c (map_term (m + c) test) (map_term (m + c) found) (map_term m other)
+    pub term_below : ℕ → TermTree → TermTree
+    term_below m (name n is) = name n (map (L.index m) is)
+    term_below m (fun f is ts) = fun f (map (L.index m) is) (map_terms m ts)
+    term_below m (macro x t) =
+        macro (macro_at x (map (L.index m) (macro_indices x))) (map_ts m t)
+    term_below m (schema k) = L.message m k
+    term_below m (diff a b) =
+        on_side L.side
+        (unwrap_or (L.term a) (term_below m a)) (unwrap_or (L.term b) (term_below m b))
+    term_below m (le t s) = le (map_ts m t) (map_ts m s)
+    term_below m (ts_eq t s) = ts_eq (map_ts m t) (map_ts m s)
+    term_below m (idx_eq i j) = idx_eq (L.index m i) (L.index m j)
+    term_below m (happens t) = happens (map_ts m t)
+    term_below m (all s body) = all s (unwrap_or (L.term body) (term_below (m + 1) body))
+    term_below m (some s body) = some s (unwrap_or (L.term body) (term_below (m + 1) body))
+    term_below m (find c test found other) =
+        find c
+        (unwrap_or (L.term test) (term_below (m + c) test))
+        (unwrap_or (L.term found) (term_below (m + c) found))
+        (unwrap_or (L.term other) (term_below m other))
 
     pub map_terms : ℕ → TermTrees → TermTrees
     map_terms m nil = nil
-    map_terms m (cons t ts) = cons (map_term m t) (map_terms m ts)
+    map_terms m (cons t ts) = cons (unwrap_or (L.term t) (term_below m t)) (map_terms m ts)
+
+  abbrev pub map_term : ℕ → TermTree → TermTree
+  map_term m t = unwrap_or (L.term t) (term_below m t)
+
+-- each part stays as it is
+abbrev pub keeping : Leaves
+keeping = record {
+  index = λ m i. i;
+  free_time = λ m k. free k;
+  bound_time = λ m k. bound k;
+  message = λ m k. schema k;
+  time = λ t. None;
+  term = λ t. None;
+  side = Both;
+}

@@ -6,3 +6,4 @@ pub mod Substitution
 pub mod Renaming
 pub mod Replacement
 pub mod Projection
+pub mod Changes

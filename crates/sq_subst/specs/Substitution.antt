@@ -1,16 +1,13 @@
 -- Arguments in the place of free variables, of variables that binders around the term would bind,
 -- and terms in the place of
 -- schema variables, all at once: what was put in is not looked at again.
-use Rattle.std.specs.Prelude.{ℕ, ◌-◌, map, List, [], ◌∷◌, Option, Some, None, slice_get}
+use Rattle.std.specs.Prelude.{ℕ, ◌-◌, List, [], ◌∷◌, Option, Some, None, slice_get}
 use Rattle.std.specs.Prelude.{if◌then◌else◌, nat_le, unwrap_or}
 use Rattle.sq_term.specs.declared.term.Idx.{Idx}
 use Rattle.sq_term.specs.declared.term.Idx.TheVariants.{Free, Bound}
 use Rattle.sq_term.specs.Syntax.{TsTree, free, bound, TermTree, schema}
-use Rattle.sq_term.specs.declared.term.Arg.{Arg}
-use Rattle.sq_term.specs.declared.term.Term.{Term}
-use Rattle.sq_term.specs.View.{term_tree}
-use Rattle.sq_term.specs.Arguments.{ArgTree, an_index, a_time, arg_tree}
-use Rattle.sq_subst.specs.Leaves.{Leaves, map_term}
+use Rattle.sq_term.specs.Arguments.{ArgTree, an_index, a_time}
+use Rattle.sq_subst.specs.Leaves.{Leaves, keeping, map_term}
 
 -- where the argument is of the other sort, or there is none, the variable stays
 abbrev pub index_or : Option ArgTree → Idx → Idx
@@ -33,7 +30,7 @@ put_index vars outer m (Free k) = index_or (slice_get vars k) (Free k)
 put_index vars outer m (Bound k) = index_or (past outer m k) (Bound k)
 
 abbrev pub substitution : List ArgTree → List ArgTree → List TermTree → Leaves
-substitution vars outer schemas = record {
+substitution vars outer schemas = record keeping {
   index = put_index vars outer;
   free_time = λ m k. time_or (slice_get vars k) (free k);
   bound_time = λ m k. time_or (past outer m k) (bound k);
@@ -47,8 +44,3 @@ opened w body = map_term (substitution [] (w ∷ []) []) 0 body
 -- free variable k becomes vars[k], and schema variable k becomes schemas[k]
 abbrev pub instance_of : List ArgTree → List TermTree → TermTree → TermTree
 instance_of vars schemas t = map_term (substitution vars [] schemas) 0 t
-
--- the same, of the program's values
-abbrev pub put_in : List Arg → List Arg → List Term → Leaves
-put_in vars outer schemas =
-    substitution (map arg_tree vars) (map arg_tree outer) (map term_tree schemas)

@@ -5,43 +5,54 @@ ghost use Rattle.sq_term.specs.View.{ts_tree, term_tree};
 ghost use Rattle.sq_term.specs.Arguments.{arg_tree};
 ghost use Rattle.sq_term.specs.declared.term.SizeFault.TheVariants.{NoMemory};
 ghost use Rattle.sq_subst.specs.Room.{within};
-ghost use Rattle.sq_subst.specs.Substitution.{opened, instance_of};
-ghost use Rattle.sq_subst.specs.Renaming.{closed_over, idx_replaced, renaming};
 ghost use Rattle.sq_subst.specs.Leaves.{map_term};
+ghost use Rattle.sq_subst.specs.Changes.{leaves};
+ghost use Rattle.sq_subst.specs.Substitution.{opened, instance_of};
+ghost use Rattle.sq_subst.specs.Renaming.{closed_over, idx_replaced, binding};
 ghost use Rattle.sq_subst.specs.Replacement.{ts_replaced, term_replaced};
 ghost use Rattle.sq_subst.specs.Projection.{projected};
-ghost use Rattle.sq_subst.specs.Projection as spec;
 
-use crate::rename::{Renaming, renamed};
-use crate::room::{MOST_LEVELS, term_room};
-use crate::sides::{side_of, side_room};
-use crate::substitute::{Put, put_room, put_term};
-use crate::terms_exchanged::{ByTerm, replaced, replaced_room};
-use crate::times_exchanged::{ByTs, ts_replaced, ts_replaced_room};
-use sq_term::{Arg, Idx, Side, SizeFault, Term, Ts, copy};
+use crate::change::Change;
+use crate::room::MOST_LEVELS;
+use crate::walk::changed;
+use crate::walk_room::changed_room;
+use sq_term::{Arg, Idx, Side, SizeFault, Term, Ts};
 use std::alloc::Global;
 use std::slice;
 
+#[tactic(auto, using(crate::proofs::Rooms::call_rules))]
+fn changed_within(
+    alloc: Global,
+    change: &Change,
+    t: &Term,
+    binders: u32,
+    room: usize,
+) -> Result<Term, SizeFault>
+    ensures { Gives NoMemory term_tree result
+        (within room (map_term (leaves change.now) binders (term_tree t.now))) }
+{
+    if changed_room(change, t, u64::from(binders), room, MOST_LEVELS).is_none() {
+        return Err(SizeFault::TooLarge);
+    }
+    Ok(changed(alloc, change, t, u64::from(binders))?)
+}
+
 /// The body with its outermost bound variable replaced. A place of the other sort stays as it is.
-#[tactic(auto, using(crate::proofs::CallRules::call_rules))]
 pub fn open_with(alloc: Global, body: &Term, with: &Arg, room: usize) -> Result<Term, SizeFault>
     ensures { Gives NoMemory term_tree result
         (within room (opened (arg_tree with.now) (term_tree body.now))) }
 {
-    let put = Put {
-        vars: &[],
-        outer: slice::from_ref(with),
-        schemas: &[],
-    };
-    if put_room(&put, body, 0, room, MOST_LEVELS).is_none() {
-        return Err(SizeFault::TooLarge);
-    }
-    Ok(put_term(alloc, &put, body, 0)?)
+    changed_within(
+        alloc,
+        &Change::Put(&[], slice::from_ref(with), &[]),
+        body,
+        0,
+        room,
+    )
 }
 
 /// The term with each of its variables and schema variables replaced, all at once: what was put in
 /// is not looked at again. A variable that has no argument of the sort of its place stays.
-#[tactic(auto, using(crate::proofs::CallRules::call_rules))]
 pub fn instance(
     alloc: Global,
     t: &Term,
@@ -53,22 +64,14 @@ pub fn instance(
         (within room
         (instance_of (map arg_tree vars.now) (map term_tree schemas.now) (term_tree t.now))) }
 {
-    let put = Put {
-        vars,
-        outer: &[],
-        schemas,
-    };
-    if put_room(&put, t, 0, room, MOST_LEVELS).is_none() {
-        return Err(SizeFault::TooLarge);
-    }
-    Ok(put_term(alloc, &put, t, 0)?)
+    changed_within(alloc, &Change::Put(vars, &[], schemas), t, 0, room)
 }
 
 /// The term as the body of a binder for a free variable: the inverse of `open_with`.
 pub fn close_var(alloc: Global, t: &Term, var: u32, room: usize) -> Result<Term, SizeFault>
     ensures { Gives NoMemory term_tree result (within room (closed_over var (term_tree t.now))) }
 {
-    renamed_within(alloc, Renaming::Close(var), t, room)
+    changed_within(alloc, &Change::Close(var), t, 0, room)
 }
 
 /// The term with each index `from` replaced.
@@ -82,23 +85,10 @@ pub fn replace_idx(
     ensures { Gives NoMemory term_tree result
         (within room (idx_replaced from.now to.now (term_tree t.now))) }
 {
-    renamed_within(alloc, Renaming::Exchange(*from, *to), t, room)
-}
-
-// A renaming keeps the nodes and the depth.
-#[tactic(auto, using(crate::proofs::CallRules::renaming_rules))]
-fn renamed_within(alloc: Global, how: Renaming, t: &Term, room: usize) -> Result<Term, SizeFault>
-    ensures { Gives NoMemory term_tree result
-        (within room (map_term (renaming how) 0 (term_tree t.now))) }
-{
-    match term_room(t, room, MOST_LEVELS) {
-        Some(_) => Ok(renamed(alloc, how, t, 0)?),
-        None => Err(SizeFault::TooLarge),
-    }
+    changed_within(alloc, &Change::Index(*from, *to), t, 0, room)
 }
 
 /// The term with each outermost timestamp `from` replaced.
-#[tactic(auto, using(crate::proofs::CallRules::call_rules))]
 pub fn replace_ts(
     alloc: Global,
     t: &Term,
@@ -109,15 +99,10 @@ pub fn replace_ts(
     ensures { Gives NoMemory term_tree result
         (within room (ts_replaced (ts_tree from.now) (ts_tree to.now) (term_tree t.now))) }
 {
-    let by = ByTs { from, to };
-    if ts_replaced_room(&by, t, room, MOST_LEVELS).is_none() {
-        return Err(SizeFault::TooLarge);
-    }
-    Ok(ts_replaced(alloc, &by, t)?)
+    changed_within(alloc, &Change::Time(from, to), t, 0, room)
 }
 
 /// The term with each outermost term `from` replaced.
-#[tactic(auto, using(crate::proofs::CallRules::call_rules))]
 pub fn replace_term(
     alloc: Global,
     t: &Term,
@@ -128,36 +113,28 @@ pub fn replace_term(
     ensures { Gives NoMemory term_tree result
         (within room (term_replaced (term_tree from.now) (term_tree to.now) (term_tree t.now))) }
 {
-    let by = ByTerm { from, to };
-    if replaced_room(&by, t, room, MOST_LEVELS).is_none() {
-        return Err(SizeFault::TooLarge);
-    }
-    Ok(replaced(alloc, &by, t)?)
+    changed_within(alloc, &Change::Term(from, to), t, 0, room)
 }
 
 /// One side of the term, without `Diff`, or the term itself.
-#[tactic(auto, using(crate::proofs::CallRules::call_rules))]
 pub fn project(alloc: Global, t: &Term, side: Side, room: usize) -> Result<Term, SizeFault>
     ensures { Gives NoMemory term_tree result (within room (projected side (term_tree t.now))) }
 {
-    match side {
-        Side::Left => projection(alloc, t, true, room),
-        Side::Right => projection(alloc, t, false, room),
-        Side::Both => {
-            if term_room(t, room, MOST_LEVELS).is_none() {
-                return Err(SizeFault::TooLarge);
-            }
-            Ok(copy(alloc, t)?)
-        }
-    }
+    changed_within(alloc, &Change::Project(side), t, 0, room)
 }
 
-#[tactic(auto, using(crate::proofs::CallRules::call_rules))]
-fn projection(alloc: Global, t: &Term, left: bool, room: usize) -> Result<Term, SizeFault>
-    ensures { Gives NoMemory term_tree result (within room (spec.side_of left (term_tree t.now))) }
+/// One side of the term below so many binders, its free indices below a number bound by further
+/// binders around these, the first by the outermost.
+pub fn bind_indices(
+    alloc: Global,
+    t: &Term,
+    indices: u32,
+    binders: u32,
+    side: Side,
+    room: usize,
+) -> Result<Term, SizeFault>
+    ensures { Gives NoMemory term_tree result
+        (within room (map_term (binding indices side) binders (term_tree t.now))) }
 {
-    if side_room(left, t, room, MOST_LEVELS).is_none() {
-        return Err(SizeFault::TooLarge);
-    }
-    Ok(side_of(alloc, left, t)?)
+    changed_within(alloc, &Change::Bind(indices, side), t, binders, room)
 }

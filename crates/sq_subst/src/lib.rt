@@ -3,15 +3,15 @@
 #![tactic(auto)]
 
 mod calls;
+mod change;
 mod meaning;
-mod rename;
 mod room;
-mod sides;
-mod substitute;
-mod terms_exchanged;
-mod times_exchanged;
+mod walk;
+mod walk_room;
 
-pub use calls::{close_var, instance, open_with, project, replace_idx, replace_term, replace_ts};
+pub use calls::{
+    bind_indices, close_var, instance, open_with, project, replace_idx, replace_term, replace_ts,
+};
 pub use meaning::{
     instance_is_at_the_values, opening_is_the_value, opening_undoes_closing,
     projecting_keeps_the_side, replacing_keeps_the_value,

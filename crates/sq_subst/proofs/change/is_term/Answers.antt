@@ -1,6 +1,6 @@
 use Rattle.std.proofs.lemmas.Bool.Decides.{same_from_decides}
 use Rattle.sq_term.proofs.SameTrees.{is_same_term-decides}
-use Rattle.sq_subst.proofs.terms_exchanged.is_term.Goals as goal
+use Rattle.sq_subst.proofs.change.is_term.Goals as goal
 
 pub returns : goal.returns
 returns c = same_from_decides _ _ c.same.ensures (is_same_term-decides c.args.a.now c.args.b.now)
