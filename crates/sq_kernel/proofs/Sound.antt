@@ -1,32 +1,37 @@
 -- What closing steps mean: the verdict is Closed exactly there, and the goal holds.
-use Rattle.std.proofs.Common.{◌≡◌, ◌↔◌, ◌<◌, ℕ, zero, suc, refl, sym, ap, ◌∙◌, List, [], ◌∷◌, ◌++◌, length, get_or, Option, Some, None, Result, Ok, Err, Bool, true, arith}
+use Rattle.std.proofs.Common.{◌≡◌, ◌↔◌, ◌<◌, ℕ, zero, suc, refl, ap, ◌∙◌, List, [], ◌∷◌, ◌++◌}
+use Rattle.std.proofs.Common.{length, get_or, Option, Some, None, Result, Ok, Err, Bool, true}
+use Rattle.std.proofs.Common.{arith}
 use Rattle.std.specs.Prelude.{slice_get, option_map}
 use Rattle.std.specs.List.{list_all}
 use Rattle.sq_term.specs.declared.model.Model.{Model}
 use Rattle.sq_term.specs.Lists.{Each, here, there}
 use Rattle.sq_term.specs.Models.{IsTraceModel}
-use Rattle.sq_term.proofs.Members.{member-append_left, member-append_right, each-append, each_cons, each_none, each_single}
+use Rattle.sq_term.proofs.Members.{member-append_left, member-append_right, each-append, each_cons}
+use Rattle.sq_term.proofs.Members.{each_none, each_single}
 use Rattle.sq_term.proofs.BoolTests.{and_split}
 use Rattle.sq_system.specs.Sequents.{SequentTree}
 use Rattle.sq_system.specs.Statements.{StmtTree, EnvTree}
 use Rattle.sq_system.specs.Usable.{no_statement, statement_at, system_of}
-use Rattle.sq_system.specs.WellFormed.{is_sequent_of, is_well_formed_for, is_well_formed, is_statement, IsEnvironment}
+use Rattle.sq_system.specs.WellFormed.{is_sequent_of, is_well_formed_for, is_well_formed}
+use Rattle.sq_system.specs.WellFormed.{is_statement, IsEnvironment}
 use Rattle.sq_system.proofs.EnvLaws.{environment_parts}
 use Rattle.sq_ground.specs.Goals.{theory_of, HoldsEverywhere}
 use Rattle.sq_ground.specs.Holding.{HoldsAt}
-use Rattle.sq_sequent.specs.declared.fault.RuleFault.{RuleFault}
-use Rattle.sq_sequent.specs.declared.step.Step.{Step}
+use Rattle.sq_system.specs.declared.fault.RuleFault.{RuleFault}
+use Rattle.sq_step.specs.declared.step.Step.{Step}
 use Rattle.sq_sequent.proofs.Preserved.{preserved}
-use Rattle.sq_rules_logic.specs.Answers.{Replaces}
+use Rattle.sq_sequent.specs.Rows.{Replaces}
 use Rattle.sq_rules_logic.specs.Soundness.{EarlierHoldAt, EarlierHold}
 use Rattle.sq_rules_logic.proofs.Answering.{replaces, replaced}
 use Rattle.sq_rules_logic.proofs.RowSound.{row_sound}
 use Rattle.sq_kernel.specs.declared.fault.Kind.{Kind}
-use Rattle.sq_kernel.specs.declared.fault.StepFault.{StepFault}
 use Rattle.sq_kernel.specs.declared.fault.StepFault.TheVariants.{Rule}
-use Rattle.sq_kernel.specs.declared.fault.Verdict.{Verdict}
-use Rattle.sq_kernel.specs.declared.fault.Verdict.TheVariants.{Closed, Rejected, Left}
-use Rattle.sq_kernel.specs.Closing.{site, calculus, in_front, kind_of, after, verdict_from, verdict_of, Closes, ClosesGoal}
+use Rattle.sq_kernel.specs.declared.fault.Verdict.TheVariants.{Closed, Rejected}
+use Rattle.sq_kernel.specs.Closing.{site}
+use Rattle.sq_kernel.specs.Verdicts.{calculus, in_front, kind_of, after, verdict_from}
+use Rattle.sq_kernel.specs.Closing.{Closes, ClosesGoal}
+use Rattle.sq_kernel.specs.Verdicts.{verdict_of}
 
 -- ---- the verdict is Closed exactly where the steps close the goal
 
@@ -46,7 +51,8 @@ module _ (env : EnvTree) (g : ℕ) where
     where
       go : (r : Result (List SequentTree) RuleFault) → calculus (site env g s) x ≡ r
           → after done (in_front r rest) (verdict_from env g (suc done) steps) ≡ Some Closed
-          → ((ps : List SequentTree) → verdict_from env g (suc done) steps (ps ++ rest) ≡ Some Closed
+          → ((ps : List SequentTree) → verdict_from env g (suc done) steps (ps ++ rest)
+          ≡ Some Closed
           → Closes env g steps (ps ++ rest))
           → (premises : List SequentTree) × Replaces (site env g s) x premises
           × Closes env g steps (premises ++ rest)
@@ -88,7 +94,8 @@ module _ (env : EnvTree) (kept : IsEnvironment env) (g : ℕ) where
       (environment_parts env kept.well_formed).2 l in
       let st : StmtTree = statement_at env g in
       ap (λ o. is_well_formed_for env o st.start) p.0
-      ∙ (and_split (is_sequent_of env (slice_get env.systems st.system) (length st.schemas) st.start) _
+      ∙ (and_split (is_sequent_of env (slice_get env.systems st.system)
+      (length st.schemas) st.start) _
       p.1).0
 
   -- the premises and the further sequents
@@ -96,7 +103,8 @@ module _ (env : EnvTree) (kept : IsEnvironment env) (g : ℕ) where
       → Replaces (site env g s) x ps → Each WellFormed (s ∷ rest) → Each WellFormed (ps ++ rest)
   replaced_well_formed x s rest ps r w =
       each-append ps rest WellFormed
-      (preserved (site env g s) x kept.well_formed ps (w s here) r.by_row r.fit) (λ y i. w y (there i))
+      (preserved (site env g s) x kept.well_formed ps (w s here) r.by_row r.fit)
+      (λ y i. w y (there i))
 
   -- each sequent of a well-formed stack that steps close holds
   stack_holds : (m : Model) → IsTraceModel (system_of env g) m → EarlierHoldAt env g m

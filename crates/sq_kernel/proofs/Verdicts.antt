@@ -1,20 +1,23 @@
 -- The verdict on a list of steps, step by step.
-use Rattle.std.proofs.Common.{◌≡◌, ◌≢◌, ◌↔◌, ◌<◌, ℕ, suc, ◌+◌, length, true, refl, sym, ap, ◌∙◌, subst, List, [], ◌∷◌, Option, Some, None, Result, Ok, Err, IfOk, arith}
+use Rattle.std.proofs.Common.{◌≡◌, ◌≢◌, ◌↔◌, ◌<◌, ℕ, suc, ◌+◌, length, sym, ap, ◌∙◌}
+use Rattle.std.proofs.Common.{List, ◌∷◌, Option, Some, None, Result, Ok, Err, IfOk}
+use Rattle.std.proofs.Common.{arith}
 use Rattle.std.specs.Prelude.{option_map}
 use Rattle.sq_base.specs.declared.memory.NoMemory.{NoMemory}
 use Rattle.sq_ground.specs.Goals.{HoldsEverywhere}
 use Rattle.sq_system.specs.Sequents.{SequentTree}
 use Rattle.sq_system.specs.Statements.{EnvTree}
 use Rattle.sq_system.specs.WellFormed.{IsEnvironment}
-use Rattle.sq_sequent.specs.declared.fault.RuleFault.TheVariants as rule
-use Rattle.sq_sequent.specs.declared.step.Step.{Step}
+use Rattle.sq_system.specs.declared.fault.RuleFault.TheVariants as rule
+use Rattle.sq_step.specs.declared.step.Step.{Step}
 use Rattle.sq_rules_logic.specs.Soundness.{EarlierHold}
 use Rattle.sq_kernel.specs.declared.fault.StepFault.{StepFault}
-use Rattle.sq_kernel.specs.declared.fault.StepFault.TheVariants.{Extra, Rule}
+use Rattle.sq_kernel.specs.declared.fault.StepFault.TheVariants.{Rule}
 use Rattle.sq_kernel.specs.declared.fault.Kind.{Kind}
 use Rattle.sq_kernel.specs.declared.fault.Verdict.{Verdict}
 use Rattle.sq_kernel.specs.declared.fault.Verdict.TheVariants.{Closed, Rejected}
-use Rattle.sq_kernel.specs.Closing.{advanced, after, kind_of, verdict_from, verdict_of, ClosesGoal}
+use Rattle.sq_kernel.specs.Closing.{ClosesGoal}
+use Rattle.sq_kernel.specs.Verdicts.{advanced, after, kind_of, verdict_from, verdict_of}
 use Rattle.sq_kernel.proofs.Sound.{closed_exactly, goal_holds}
 
 not_memory : (f : StepFault) (k : Kind) → kind_of f ≡ Some k → f ≢ Rule rule.NoMemory

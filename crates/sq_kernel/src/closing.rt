@@ -4,7 +4,8 @@ ghost use Rattle.sq_system.specs.Environments.{env_tree};
 ghost use Rattle.sq_ground.specs.Goals.{HoldsEverywhere};
 ghost use Rattle.sq_sequent.specs.Logic.{sequent_trees};
 ghost use Rattle.sq_rules_logic.specs.Soundness.{EarlierHold};
-ghost use Rattle.sq_kernel.specs.Closing.{at_end, verdict_of, ClosesGoal};
+ghost use Rattle.sq_kernel.specs.Closing.{ClosesGoal};
+ghost use Rattle.sq_kernel.specs.Verdicts.{at_end, verdict_of};
 
 use crate::fault::Verdict;
 use crate::stack::advance_last;
@@ -16,7 +17,8 @@ use std::alloc::Global;
 pub fn check(alloc: Global, steps: &[Step], env: &Env, goal: u32) -> Result<Verdict, NoMemory>
     requires { goal < length env.now.stmts }
     ensures verdict { IfOk result (λ v. verdict_of (env_tree env.now) goal steps.now ≡ Some v) }
-    ensures closed { IfOk result (λ v. (v ≡ Verdict.Closed) ↔ ClosesGoal (env_tree env.now) goal steps.now) }
+    ensures closed { IfOk result (λ v. (v ≡ Verdict.Closed)
+        ↔ ClosesGoal (env_tree env.now) goal steps.now) }
     ensures sound { IfOk result (λ v. v ≡ Verdict.Closed → EarlierHold (env_tree env.now) goal
         → HoldsEverywhere (env_tree env.now) goal) }
 {

@@ -29,7 +29,7 @@ pub enum Verdict {
 
 impl StepFault {
     ghost use Rattle.std.specs.Prelude.{◌≡◌};
-    ghost use Rattle.sq_kernel.specs.Closing.{kind_of};
+    ghost use Rattle.sq_kernel.specs.Verdicts.{kind_of};
 
     /// Why the step was refused. None is want of memory, which is no reason.
     pub fn kind(&self) -> Option<Kind>

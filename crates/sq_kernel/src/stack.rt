@@ -1,10 +1,12 @@
 // Stacks of sequents. The first sequent is the one that the next step acts on.
-ghost use Rattle.std.specs.Prelude.{◌≡◌, ◌<◌, ◌++◌, Err, OnOk, OnErr, MatchResult, length, drop, reverse};
+ghost use Rattle.std.specs.Prelude.{◌≡◌, ◌<◌, ◌++◌, Err, OnOk, OnErr, MatchResult, length, drop};
+ghost use Rattle.std.specs.Prelude.{reverse};
 ghost use Rattle.sq_base.specs.Gives.{Gives};
 ghost use Rattle.sq_system.specs.Environments.{env_tree};
 ghost use Rattle.sq_sequent.specs.Logic.{sequent_trees};
 ghost use Rattle.sq_system.specs.Sequents.{sequent_tree};
-ghost use Rattle.sq_kernel.specs.Closing.{site, calculus, advanced};
+ghost use Rattle.sq_kernel.specs.Closing.{site};
+ghost use Rattle.sq_kernel.specs.Verdicts.{calculus, advanced};
 
 use crate::fault::StepFault;
 use sq_base::{NoMemory, Seq};
@@ -84,7 +86,8 @@ pub fn advance_last(
     env: &Env,
     goal: u32,
 ) -> Result<(), StepFault>
-    ensures { Gives (StepFault.Rule RuleFault.NoMemory) (λ _. sequent_trees (reverse stack.new.items)) result
+    ensures { Gives (StepFault.Rule RuleFault.NoMemory)
+        (λ _. sequent_trees (reverse stack.new.items)) result
         (advanced (env_tree env.now) goal step.now (sequent_trees (reverse stack.old.items))) }
 {
     match stack.pop() {
@@ -99,7 +102,8 @@ fn put_premises(
     premises: Result<Seq<Sequent>, RuleFault>,
 ) -> Result<(), StepFault>
     ensures { MatchResult premises
-        (λ ps. MatchResult result (λ _. reverse stack.new.items ≡ ps ++ reverse stack.old.items) (λ e. e ≡ StepFault.Rule RuleFault.NoMemory))
+        (λ ps. MatchResult result (λ _. reverse stack.new.items ≡ ps ++ reverse stack.old.items)
+        (λ e. e ≡ StepFault.Rule RuleFault.NoMemory))
         (λ fault. result ≡ Err (StepFault.Rule fault)) }
 {
     match premises {

@@ -1,5 +1,6 @@
 -- What the exact answer of a step says in the words of its row.
-use Rattle.std.proofs.Common.{◌≡◌, ◌≢◌, ◌⊎◌, inl, inr, refl, sym, ap, ◌∙◌, subst, List, Option, Some, None, Result, Ok, Err, IfOk, Bool, true, false}
+use Rattle.std.proofs.Common.{◌≡◌, ◌⊎◌, inl, inr, refl, sym, ap, ◌∙◌, List, Option}
+use Rattle.std.proofs.Common.{Some, None, Result, Ok, Err, IfOk, Bool, true, false}
 use Rattle.std.specs.Prelude.{if◌then◌else◌}
 use Rattle.sq_base.specs.Gives.{Gives}
 use Rattle.sq_term.specs.Lists.{Each}
@@ -7,16 +8,17 @@ use Rattle.sq_system.specs.declared.sequent.Sequent.{Sequent}
 use Rattle.sq_system.specs.Sequents.{SequentTree}
 use Rattle.sq_system.specs.Sizes.{all_fit}
 use Rattle.sq_system.specs.WellFormed.{is_environment}
-use Rattle.sq_sequent.specs.declared.fault.RuleFault.{RuleFault}
-use Rattle.sq_sequent.specs.declared.fault.RuleFault.TheVariants as fault
-use Rattle.sq_sequent.specs.declared.step.Step.{Step}
+use Rattle.sq_system.specs.declared.fault.RuleFault.{RuleFault}
+use Rattle.sq_system.specs.declared.fault.RuleFault.TheVariants as fault
+use Rattle.sq_step.specs.declared.step.Step.{Step}
 use Rattle.sq_sequent.specs.Laws.{IsWellFormed}
 use Rattle.sq_sequent.specs.Logic.{sequent_trees, logic_row, within_limits, judged, logic_premises}
 use Rattle.sq_sequent.specs.Rows.{Row}
 use Rattle.sq_sequent.specs.Site.{Site}
 use Rattle.sq_sequent.proofs.Agree.{rows_agree}
 use Rattle.sq_sequent.proofs.Preserved.{preserved}
-use Rattle.sq_rules_logic.specs.Answers.{Replaces, Answers}
+use Rattle.sq_rules_logic.specs.Answers.{Answers}
+use Rattle.sq_sequent.specs.Rows.{Replaces}
 use Rattle.sq_rules_logic.specs.Soundness.{PremisesSuffice}
 use Rattle.sq_rules_logic.proofs.RowSound.{row_suffices}
 
@@ -33,14 +35,16 @@ judged_ok (Some qs) ps e = go (all_fit qs) refl e
     go false f k = absurd (cc)
 
 judged_err : (o : Option (List SequentTree)) (e : RuleFault) → judged o ≡ Err e
-    → ((o ≡ None) × (e ≡ fault.Shape)) ⊎ ((ps : List SequentTree) × (o ≡ Some ps) × (all_fit ps ≡ false) × (e ≡ fault.TooLarge))
+    → ((o ≡ None) × (e ≡ fault.Shape))
+    ⊎ ((ps : List SequentTree) × (o ≡ Some ps) × (all_fit ps ≡ false) × (e ≡ fault.TooLarge))
 unfolding within_limits
 judged_err None e k = inl (refl, cc)
 judged_err (Some qs) e k = go (all_fit qs) refl k
   where
     go : (b : Bool) → all_fit qs ≡ b → (if b then Ok qs else Err fault.TooLarge) ≡ Err e
         → ((Some qs ≡ None) × (e ≡ fault.Shape))
-        ⊎ ((ps : List SequentTree) × (Some qs ≡ Some ps) × (all_fit ps ≡ false) × (e ≡ fault.TooLarge))
+        ⊎ ((ps : List SequentTree) × (Some qs ≡ Some ps) × (all_fit ps ≡ false) ×
+        (e ≡ fault.TooLarge))
     go true f j = absurd (cc)
     go false f j = inr (qs, refl, f, cc)
 
@@ -59,7 +63,8 @@ module _ (at : Site) (step : Step) where
 
   refused : (e : RuleFault) → logic_premises at step ≡ Err e
       → ((logic_row at step ≡ None) × (e ≡ fault.Shape))
-      ⊎ ((ps : List SequentTree) × (logic_row at step ≡ Some ps) × (all_fit ps ≡ false) × (e ≡ fault.TooLarge))
+      ⊎ ((ps : List SequentTree) × (logic_row at step ≡ Some ps) × (all_fit ps ≡ false) ×
+      (e ≡ fault.TooLarge))
   unfolding logic_premises
   refused e k = judged_err (logic_row at step) e k
 

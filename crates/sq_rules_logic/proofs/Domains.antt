@@ -1,5 +1,6 @@
 -- The value of an argument for a binder is in the binder's domain.
-use Rattle.std.proofs.Common.{◌≡◌, ℕ, zero, suc, ◌+◌, ◌<◌, ◌≤◌, ◌⊎◌, ⊎_elim, sym, subst, List, [], ◌∷◌, map, length, Option, Some, None, Bool, true, false, arith}
+use Rattle.std.proofs.Common.{◌≡◌, ℕ, zero, suc, ◌+◌, ◌<◌, ◌≤◌, ◌⊎◌, ⊎_elim, sym, subst, List, []}
+use Rattle.std.proofs.Common.{◌∷◌, map, length, Option, Some, None, Bool, true, false, arith}
 use Rattle.std.specs.Prelude.{⊤, get_or, if◌then◌else◌}
 use Rattle.sq_base.specs.declared.sort.Sort.{Sort}
 use Rattle.sq_base.specs.declared.sort.Sort.TheVariants.{Message, Boolean, Index, Timestamp}
@@ -13,13 +14,15 @@ use Rattle.sq_term.specs.Arguments.{ArgTree, an_index, a_time}
 use Rattle.sq_term.specs.Lists.{Member, here, there, Each, count}
 use Rattle.sq_term.specs.Models.{is_instance, place_from, times_of}
 use Rattle.sq_term.specs.Syntax.{TsTree, free, bound, init, pred, action}
-use Rattle.sq_term.specs.Translate.{Times, Assignment, time_of, idx_value, idx_values, before, ts_value, domain}
-use Rattle.sq_term.proofs.Members.{member-append_left, member-append_right, member-map, each-map, each-push}
+use Rattle.sq_term.specs.Translate.{Times, Assignment, time_of, idx_value, idx_values, before}
+use Rattle.sq_term.specs.Translate.{ts_value, domain}
+use Rattle.sq_term.proofs.Members.{member-append_left, member-append_right, member-map, each-map}
+use Rattle.sq_term.proofs.Members.{each-push}
 use Rattle.sq_term.proofs.SameTrees.{is_same_sort-decides}
 use Rattle.sq_typing.specs.Typing.{Signature, has_sort_at, is_index, is_timestamp}
 use Rattle.sq_subst.specs.Laws.{arg_value}
 use Rattle.sq_ground.specs.Holding.{Fits}
-use Rattle.sq_sequent.proofs.Opened.{is_value}
+use Rattle.sq_formula.proofs.Opened.{is_value}
 use Rattle.sq_rules_logic.proofs.FurtherVariable.{numbers}
 
 -- ---- numbers in a row

@@ -1,5 +1,6 @@
 -- Equality by the ground rules: reflexive, symmetric, transitive, and passed on by functions.
-use Rattle.std.proofs.Common.{◌≡◌, refl, List, [], ◌∷◌, Bool, true, false, cond}
+use Rattle.std.proofs.Common.{◌≡◌, refl, List, [], ◌∷◌, Bool, true, false}
+use Rattle.std.specs.Prelude.{if◌then◌else◌}
 use Rattle.sq_term.proofs.Members.{each_none}
 use Rattle.sq_term.specs.Ground.{Ground, more, none}
 use Rattle.sq_term.specs.GroundFormulas.{implies, equivalent, equal, conj}
@@ -10,22 +11,25 @@ use Rattle.sq_ground.specs.Rules.{FollowsBy}
 use Rattle.sq_ground.specs.Theories.{Theory}
 use Rattle.sq_ground.specs.Derivations.{HasDerivation}
 use Rattle.sq_ground.proofs.Derivations.{derive_outright}
-use Rattle.sq_ground.proofs.Propositional.{claim, Proved, by_two, by_three, from_fact, and_left, if_to}
+use Rattle.sq_ground.proofs.Propositional.{claim, Proved, by_two, by_three, from_fact, and_left}
+use Rattle.sq_ground.proofs.Propositional.{if_to}
 
 -- with A for u = v, R for a reflexive equation, and A and R giving that X and Y are equivalent
 swap_truth : (A R X Y : Bool)
-    → cond (cond A R false) (cond (cond X Y true) (cond Y X true) false) true ≡ true
+    → (if (if A then R else false) then
+    (if (if X then Y else true) then (if Y then X else true) else false) else true) ≡ true
     → A ≡ true → R ≡ true → X ≡ true → Y ≡ true
-swap_truth true true true Y e a r x = and_left Y (cond Y true true) e
+swap_truth true true true Y e a r x = and_left Y (if Y then true else true) e
 swap_truth true true false Y e a r x = cc
 swap_truth true false X Y e a r x = cc
 swap_truth false R X Y e a r x = cc
 
 chain_truth : (R C X Y : Bool)
-    → cond (cond R C false) (cond (cond X Y true) (cond Y X true) false) true ≡ true
-    → R ≡ true → C ≡ true → cond X Y true ≡ true
+    → (if (if R then C else false) then
+    (if (if X then Y else true) then (if Y then X else true) else false) else true) ≡ true
+    → R ≡ true → C ≡ true → (if X then Y else true) ≡ true
 chain_truth R C false Y e r c = refl
-chain_truth true true true Y e r c = and_left Y (cond Y true true) e
+chain_truth true true true Y e r c = and_left Y (if Y then true else true) e
 chain_truth true false true Y e r c = cc
 chain_truth false C true Y e r c = cc
 

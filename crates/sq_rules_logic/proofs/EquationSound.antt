@@ -1,10 +1,8 @@
 -- The rows of equations keep what holds.
-use Rattle.std.proofs.Common.{◌≡◌, ℕ, suc, ◌==◌, refl, sym, ap, ◌∙◌, subst, List, [], map, Option, Some, None, Bool, true, false}
-use Rattle.std.specs.Prelude.{slice_get}
-use Rattle.sq_base.specs.declared.sort.Sort.{Sort}
+use Rattle.std.proofs.Common.{◌≡◌, ℕ, suc, ◌==◌, refl, sym, ap, ◌∙◌, subst, List, [], map, Option}
+use Rattle.std.proofs.Common.{Some, None, Bool, true, false}
 use Rattle.sq_base.specs.declared.sort.Sort.TheVariants.{Message, Boolean}
 use Rattle.sq_term.specs.declared.term.Idx.{Idx}
-use Rattle.sq_term.specs.declared.term.Side.{Side}
 use Rattle.sq_term.specs.Builtins.{takes_boolean}
 use Rattle.sq_term.specs.Formulas.{equal}
 use Rattle.sq_term.specs.Ground.{Ground}
@@ -15,7 +13,8 @@ use Rattle.sq_term.specs.Signatures.{is_boolean_function}
 use Rattle.sq_term.specs.Symbols as kind
 use Rattle.sq_term.specs.Symbols.{Kind}
 use Rattle.sq_term.specs.Syntax.{TermTree, fun, ts_eq, idx_eq, TermTrees, nil, cons}
-use Rattle.sq_term.specs.Translate.{World, Assignment, idx_values, ts_value, idx_value, is_same_time, translate, translate_all}
+use Rattle.sq_term.specs.Translate.{World, Assignment, idx_values, ts_value, idx_value}
+use Rattle.sq_term.specs.Translate.{is_same_time, translate, translate_all}
 use Rattle.sq_term.proofs.BoolTests.{number_itself}
 use Rattle.sq_term.proofs.Members.{each_none, each_cons}
 use Rattle.sq_typing.specs.Functions.{are_functions}
@@ -31,11 +30,11 @@ use Rattle.sq_ground.specs.Theories.{Theory, world_at}
 use Rattle.sq_ground.specs.Truth.{IsTrueAt}
 use Rattle.sq_ground.proofs.Congruence.{congruence}
 use Rattle.sq_ground.proofs.Propositional.{Proved}
-use Rattle.sq_sequent.specs.Logic.{asked_alike, arguments_asked}
+use Rattle.sq_sequent.specs.Premises.{asked_alike, arguments_asked}
 use Rattle.sq_sequent.specs.Premises.{asking}
-use Rattle.sq_sequent.specs.Rows.{Asks, AsksItself, of_message, of_time, of_index}
+use Rattle.sq_sequent.specs.Rows.{AsksItself, of_message, of_time, of_index}
 use Rattle.sq_sequent.specs.Site.{Site}
-use Rattle.sq_sequent.specs.Views.{goal_of, local_goal_of}
+use Rattle.sq_sequent.specs.Views.{local_goal_of}
 use Rattle.sq_rules_logic.proofs.EqualityRules as equals
 use Rattle.sq_rules_logic.proofs.Holding.{goal_sound}
 
@@ -55,7 +54,8 @@ module _ (th : Theory) where
 
   -- the premise that asks F gives its line
   abbrev Gives : Bool → Assignment → List TermTree → SequentTree → TermTree → Type 0
-  Gives left a H s F = HoldsAt th (asking s F) → Proved th left (map (read left a) H) (read left a F)
+  Gives left a H s F = HoldsAt th (asking s F)
+      → Proved th left (map (read left a) H) (read left a F)
 
   -- from premises that ask, on each side and under each assignment
   pub local_sound : (s : SequentTree) (g : TermTree) → local_goal_of s ≡ Some g
@@ -89,14 +89,16 @@ module _ (th : Theory) where
   sym_sound s u v e p =
       local_sound s (equal u v) e
       (λ left a H q.
-      equals.symmetric th left (map (read left a) H) (read left a u) (read left a v) (q (equal v u) p))
+      equals.symmetric th left (map (read left a) H) (read left a u) (read left a v)
+      (q (equal v u) p))
 
   pub trans_sound : (s : SequentTree) (u w v : TermTree) → local_goal_of s ≡ Some (equal u v)
       → HoldsAt th (asking s (equal u w)) → HoldsAt th (asking s (equal w v)) → HoldsAt th s
   trans_sound s u w v e p q =
       local_sound s (equal u v) e
       (λ left a H k.
-      equals.transitive th left (map (read left a) H) (read left a u) (read left a w) (read left a v)
+      equals.transitive th left (map (read left a) H) (read left a u) (read left a w)
+      (read left a v)
       (k (equal u w) p) (k (equal w v) q))
 
 -- ---- a function of arguments that are equal, or equivalent
@@ -109,7 +111,8 @@ module _ (th : Theory) (left : Bool) (a : Assignment) (H : List TermTree) (s : S
   abbrev hyps : List Ground
   hyps = map (translate w a []) H
 
-  alike-read : (b : Bool) (u v : TermTree) → Proved th left hyps (translate w a [] (asked_alike b u v))
+  alike-read : (b : Bool) (u v : TermTree)
+      → Proved th left hyps (translate w a [] (asked_alike b u v))
       → Proved th left hyps (alike b (translate w a [] u) (translate w a [] v))
   alike-read true u v p = p
   alike-read false u v p = p
@@ -157,6 +160,7 @@ arg_sound th g known ok s about f is us vs sorted e n h =
     let sort = sort-of g about Message (fun f is us)
     (first-stands g about Boolean kind.equality (fun f is us) (fun f is vs) sorted) in
     let message : is_boolean_function th.funs f ≡ false =
-    ap (λ fs. is_boolean_function fs f) (sym known) ∙ application_sort g [] Message f is us ok sort in
+    ap (λ fs. is_boolean_function fs f)
+    (sym known) ∙ application_sort g [] Message f is us ok sort in
     local_sound th s (equal (fun f is us) (fun f is vs)) e
     (λ left a H given. equal-applications th left a H s given f is us vs message n h)

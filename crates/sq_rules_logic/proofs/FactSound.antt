@@ -1,11 +1,9 @@
 -- What the calculus knows of a term has a derivation.
-use Rattle.std.proofs.Common.{◌≡◌, subst, List, [], ◌∷◌, ◌++◌, Bool, true}
+use Rattle.std.proofs.Common.{◌≡◌, subst, [], ◌∷◌, ◌++◌, Bool, true}
 use Rattle.sq_base.specs.declared.sort.Sort.{Sort}
-use Rattle.sq_term.specs.declared.signature.FunDecl.{FunDecl}
 use Rattle.sq_term.specs.declared.term.Side.{Side}
 use Rattle.sq_term.specs.Closed.{is_closed}
 use Rattle.sq_term.specs.Lists.{Member}
-use Rattle.sq_term.specs.Signatures.{is_signature}
 use Rattle.sq_term.specs.Syntax.{TermTree}
 use Rattle.sq_term.specs.Translate.{Assignment, translate}
 use Rattle.sq_term.proofs.Members.{each_none}
@@ -19,7 +17,8 @@ use Rattle.sq_ground.specs.Truth.{IsTrueAt}
 use Rattle.sq_ground.proofs.Derivations.{derive_outright}
 use Rattle.sq_ground.proofs.Propositional.{claim, by_two, andi}
 use Rattle.sq_sequent.specs.Premises.{assuming}
-use Rattle.sq_sequent.specs.Rows.{IsOn, HasFact}
+use Rattle.sq_formula.specs.Facts.{HasFact}
+use Rattle.sq_sequent.specs.Rows.{IsOn}
 use Rattle.sq_rules_logic.proofs.FindFact.{find-known}
 use Rattle.sq_rules_logic.proofs.Holding.{each-map_push}
 

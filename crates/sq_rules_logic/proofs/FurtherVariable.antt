@@ -1,5 +1,7 @@
--- A sequent over one more variable: what it says at each value of that variable is what alli and exe need.
-use Rattle.std.proofs.Common.{◌≡◌, ℕ, suc, refl, sym, ap, ◌∙◌, subst, List, [], ◌∷◌, ◌++◌, map, length, Some, None, Bool, true, false}
+-- A sequent over one more variable: what it says at each value of that variable is what alli and
+-- exe need.
+use Rattle.std.proofs.Common.{◌≡◌, ℕ, suc, refl, sym, ap, ◌∙◌, subst, List, [], ◌∷◌, ◌++◌, map}
+use Rattle.std.proofs.Common.{length, Some, None, Bool, true, false}
 use Rattle.std.specs.Prelude.{get_or}
 use Rattle.std.proofs.lemmas.List.{map-append}
 use Rattle.sq_base.specs.declared.sort.Sort.{Sort}
@@ -23,7 +25,8 @@ use Rattle.sq_ground.specs.Truth.{is_true, IsTrueAt}
 use Rattle.sq_ground.specs.Lines.{Claim}
 use Rattle.sq_ground.specs.Lines as line
 use Rattle.sq_ground.specs.Theories.{Theory, world_at}
-use Rattle.sq_ground.specs.Holding.{Fits, IsAssignment, claim_of, pair_of, pairs_of, IsTrueFormula, HoldsAt}
+use Rattle.sq_ground.specs.Holding.{Fits, IsAssignment, claim_of, pair_of, pairs_of, IsTrueFormula}
+use Rattle.sq_ground.specs.Holding.{HoldsAt}
 use Rattle.sq_ground.specs.Derivations.{HasDerivation}
 use Rattle.sq_ground.proofs.Propositional.{conj-from, disj-cases}
 use Rattle.sq_ground.proofs.Propositional as ground_rule
@@ -49,8 +52,10 @@ last_value a v k e =
     ∙ get_or-last a.variables v (Moment None)
 
 variable_value : (w : Times) (x : Sort) (a : Assignment) (v : Value) (k : ℕ)
-    → length a.variables ≡ k → Member (domain w x) v → arg_value w (with_value a v) (variable x k) ≡ v
-variable_value w Index a v k e i = ap (λ u. Number (number_of u)) (last_value a v k e) ∙ numbers w v i
+    → length a.variables ≡ k → Member (domain w x) v
+    → arg_value w (with_value a v) (variable x k) ≡ v
+variable_value w Index a v k e i = ap (λ u. Number (number_of u))
+    (last_value a v k e) ∙ numbers w v i
 variable_value w Timestamp a v k e i =
     ap (λ u. Moment (time_of u)) (last_value a v k e) ∙ moments w v i
 variable_value w Message a v k e i = elim i [ ]
@@ -191,7 +196,8 @@ module _ (th : Theory) (vars : List Sort) (H : List TermTree) (x : Sort) (F : Te
 
     -- what follows at each value at which the body is true follows
     at_some_value : (a : Assignment) → Each (IsTrueFormula th a) H → (P : Type 0)
-        → ((v : Value) → Member (domain th.times x) v → IsTrueAt (λ u. false) (at_value true a v) → P)
+        → ((v : Value) → Member (domain th.times x) v → IsTrueAt (λ u. false) (at_value true a v)
+        → P)
         → P
     at_some_value a h P f =
         disj-cases (λ u. false) (map (at_value true a) (domain th.times x)) P (h (some x F) among)

@@ -1,7 +1,9 @@
 -- How a sequent holds where its premises do, in the forms that rows share.
-use Rattle.std.proofs.Common.{◌≡◌, ◌⊎◌, inl, inr, sym, subst, List, [], ◌∷◌, ◌++◌, map, Some, Bool, true, false}
+use Rattle.std.proofs.Common.{◌≡◌, ◌⊎◌, inl, inr, sym, subst, List, [], ◌∷◌, ◌++◌, map, Some, Bool}
+use Rattle.std.proofs.Common.{true, false}
 use Rattle.sq_term.specs.Lists.{Member, here, there, Each}
-use Rattle.sq_term.proofs.Members.{each-map, each-push, each_none, each_cons, each_single, member-map}
+use Rattle.sq_term.proofs.Members.{each-map, each-push, each_none, each_cons, each_single}
+use Rattle.sq_term.proofs.Members.{member-map}
 use Rattle.sq_term.specs.Syntax.{TermTree}
 use Rattle.sq_term.specs.Ground.{Ground}
 use Rattle.sq_term.specs.Translate.{Assignment, translate}
@@ -53,7 +55,8 @@ module _ (th : Theory) where
       → TrueIn true a plain F → Each (IsTrueFormula th a) (H ++ F ∷ [])
   also_true a H F h e = each-push H F (IsTrueFormula th a) h e
 
-  also_true_in : (left : Bool) (a : Assignment) (v : Ground → Bool) (H : List TermTree) (F : TermTree)
+  also_true_in : (left : Bool) (a : Assignment) (v : Ground → Bool) (H : List TermTree)
+      (F : TermTree)
       → AllTrueIn left a v H → TrueIn left a v F → AllTrueIn left a v (H ++ F ∷ [])
   also_true_in left a v H F h e =
       each-map_push (translate (world_at th left) a []) H F (IsTrueAt v) h e
@@ -62,7 +65,8 @@ module _ (th : Theory) where
   pub hyp_true : (H : List TermTree) (h : TermTree) → Member H h → (left : Bool) (a : Assignment)
       (v : Ground → Bool) → AllTrueIn left a v H → TrueIn left a v h
   hyp_true H h i left a v all =
-      all (translate (world_at th left) a [] h) (member-map (translate (world_at th left) a []) H h i)
+      all (translate (world_at th left) a [] h)
+      (member-map (translate (world_at th left) a []) H h i)
 
   -- a further hypothesis that is true anyway
   pub assume_sound : (s : SequentTree) (F : TermTree) → Always s (λ left a v. TrueIn left a v F)
@@ -121,7 +125,8 @@ module _ (th : Theory) where
 
   -- F is asked, which contradicts the hypotheses
   pub contrary_sound : (s : SequentTree) (F : TermTree)
-      → Always s (λ left a v. TrueIn left a v F → false ≡ true) → HoldsAt th (asking s F) → HoldsAt th s
+      → Always s (λ left a v. TrueIn left a v F → false ≡ true) → HoldsAt th (asking s F)
+      → HoldsAt th s
   unfolding asking
   contrary_sound (trace vars H g) F e p = λ a f h.
       let x = e true a f plain (all_plain a H h) (p a f h) in absurd (cc)

@@ -1,28 +1,33 @@
--- What an instance with messages says, on a side, is what the formula means of the messages' meanings.
-use Rattle.std.proofs.Common.{◌≡◌, ℕ, suc, ◌+◌, refl, ap, ◌∙◌, List, [], ◌∷◌, ◌++◌, length, Bool, true, false, ◌&&◌, nat_lt}
+-- What an instance with messages says, on a side, is what the formula means of the messages'
+-- meanings.
+use Rattle.std.proofs.Common.{◌≡◌, ℕ, suc, ◌+◌, refl, ap, ◌∙◌, List, [], ◌∷◌, ◌++◌, length}
+use Rattle.std.proofs.Common.{true, false, ◌&&◌, nat_lt}
 use Rattle.std.specs.Prelude.{slice_get, replicate}
 use Rattle.sq_base.specs.declared.sort.Sort.{Sort}
 use Rattle.sq_base.specs.declared.sort.Sort.TheVariants.{Message, Boolean, Index}
 use Rattle.sq_term.specs.declared.term.Idx.{Idx}
 use Rattle.sq_term.specs.declared.term.Idx.TheVariants.{Free, Bound}
 use Rattle.sq_term.specs.declared.term.Side.{Side}
-use Rattle.sq_term.specs.declared.term.Side.TheVariants.{Left, Right, Both}
 use Rattle.sq_term.specs.Macros.{macro_indices}
 use Rattle.sq_term.specs.Measure.{count_terms}
 use Rattle.sq_term.specs.Pure.{is_binder_sort}
 use Rattle.sq_term.specs.Symbols.{Kind, function_number}
-use Rattle.sq_term.specs.Syntax.{TsTree, free, bound, init, pred, action, TermTree, name, fun, macro, schema, diff, le, ts_eq, idx_eq, happens, all, some, find, TermTrees, nil, cons}
+use Rattle.sq_term.specs.Syntax.{TsTree, free, bound, init, pred, action, TermTree, name, fun}
+use Rattle.sq_term.specs.Syntax.{macro, schema, diff, le, ts_eq, idx_eq, happens, all, some, find}
+use Rattle.sq_term.specs.Syntax.{TermTrees, nil, cons}
 use Rattle.sq_term.specs.Translate.{World, Assignment, translate}
 use Rattle.sq_term.specs.TreeEquality.{is_same_sort}
 use Rattle.sq_term.proofs.BoolTests.{and_split, and_both}
-use Rattle.sq_typing.specs.Typing.{Signature, has_count_at, is_index, are_indices, is_timestamp, applies, result_sort, macro_sort, argument_sort, has_sort, have_sorts}
+use Rattle.sq_typing.specs.Typing.{Signature, has_count_at, is_index, are_indices, is_timestamp}
+use Rattle.sq_typing.specs.Typing.{applies, result_sort, macro_sort, argument_sort, has_sort}
+use Rattle.sq_typing.specs.Typing.{have_sorts}
 use Rattle.sq_subst.specs.Laws.{is_read_on, terms_closed, idx_takes, reached, instance_values}
 use Rattle.sq_subst.specs.Projection.{projected}
 use Rattle.sq_subst.specs.Tests.{indices_pass, ts_passes, passes, all_pass}
 use Rattle.sq_subst.proofs.Laws.{instance_law, project_law}
-use Rattle.sq_sequent.specs.Uses.{instance_on}
-use Rattle.sq_sequent.proofs.KeptSorts.{with_variables, both_kept}
-use Rattle.sq_sequent.proofs.SideSorts.{side-sort}
+use Rattle.sq_sequent.specs.Sides.{instance_on}
+use Rattle.sq_formula.proofs.KeptSorts.{with_variables, both_kept}
+use Rattle.sq_formula.proofs.SideSorts.{side-sort}
 
 -- a term without variables has all that an instance with enough messages asks for
 module _ (symbols : Signature) (n : ℕ) (ms : List TermTree) (many : length ms ≡ n) where
@@ -99,7 +104,8 @@ module _ (symbols : Signature) (n : ℕ) (ms : List TermTree) (many : length ms 
         (and_split (is_same_sort Boolean s) _ h).1).1
     all_reached m bs s (find c t a b) h =
         let inner : List Sort = replicate c Index ++ bs in
-        let p = and_split (has_sort bare inner Boolean t) _ (and_split (is_same_sort Message s) _ h).1 in
+        let p = and_split (has_sort bare inner Boolean t) _
+        (and_split (is_same_sort Message s) _ h).1 in
         let q = and_split (has_sort bare inner Message a) (has_sort bare bs Message b) p.1 in
         and_both (passes (reached [] ms) (m + c) t) _ (all_reached (m + c) inner Boolean t p.0)
         (and_both (passes (reached [] ms) (m + c) a) (passes (reached [] ms) m b)
@@ -113,16 +119,10 @@ module _ (symbols : Signature) (n : ℕ) (ms : List TermTree) (many : length ms 
         (passes (reached [] ms) m t) (all_pass (reached [] ms) m ts)
         (all_reached m bs (argument_sort f k) t) (each_reached m bs f (suc k) ts) h
 
-  side_sort : (side : Side) (F : TermTree) → has_sort bare [] Boolean F ≡ true
-      → has_sort bare [] Boolean (projected side F) ≡ true
-  side_sort Left F h = side-sort bare true [] Boolean F h
-  side_sort Right F h = side-sort bare false [] Boolean F h
-  side_sort Both F h = h
-
   pub instance_meaning : (w : World) (a : Assignment) (side : Side) (F : TermTree)
       → is_read_on side w ≡ true → terms_closed ms ≡ true → has_sort bare [] Boolean F ≡ true
       → translate w a [] (instance_on side ms F) ≡ translate w (instance_values w a [] ms) [] F
   instance_meaning w a side F e c h =
       instance_law w a [] refl ms (projected side F) c
-      (all_reached 0 [] Boolean (projected side F) (side_sort side F h))
+      (all_reached 0 [] Boolean (projected side F) (side-sort bare side [] Boolean F h))
       ∙ project_law w (instance_values w a [] ms) [] side F e

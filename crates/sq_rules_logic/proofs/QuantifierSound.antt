@@ -1,6 +1,6 @@
 -- The rows of quantifiers keep what holds.
-use Rattle.std.proofs.Common.{◌≡◌, refl, sym, ap, subst, List, ◌∷◌, [], map, length, Some, Bool, true, false, cond, ◌&&◌, ◌||◌}
-use Rattle.std.specs.Prelude.{slice_get}
+use Rattle.std.proofs.Common.{◌≡◌, refl, sym, subst, List, ◌∷◌, [], map, length, Some, Bool}
+use Rattle.std.proofs.Common.{true, false, ◌||◌}
 use Rattle.std.specs.List.{list_all}
 use Rattle.sq_base.specs.declared.sort.Sort.{Sort}
 use Rattle.sq_base.specs.declared.sort.Sort.TheVariants.{Message, Boolean}
@@ -19,26 +19,28 @@ use Rattle.sq_typing.specs.Typing.{Signature, has_sort}
 use Rattle.sq_subst.specs.Laws.{arg_value}
 use Rattle.sq_subst.specs.Substitution.{opened}
 use Rattle.sq_subst.proofs.Laws.{open_law}
-use Rattle.sq_system.specs.Sequents.{Item, item, SequentTree, trace, local, equiv, vars_of, hyps_of, body_of}
-use Rattle.sq_system.specs.WellFormed.{subject_of, has_both_sorts, is_item, is_sorted_body, is_sorted}
+use Rattle.sq_system.specs.Sequents.{Item, item, SequentTree, trace, local, equiv, vars_of, hyps_of}
+use Rattle.sq_system.specs.WellFormed.{has_both_sorts, is_item}
+use Rattle.sq_system.specs.WellFormed.{is_sorted}
 use Rattle.sq_ground.specs.Truth.{IsTrueAt}
 use Rattle.sq_ground.specs.Theories.{Theory, world_at}
 use Rattle.sq_ground.specs.Holding.{Fits, IsAssignment, HoldsAt}
 use Rattle.sq_ground.proofs.Propositional.{conj-to, disj-from}
-use Rattle.sq_sequent.specs.Views.{goal_of, hyp_of}
-use Rattle.sq_sequent.specs.Premises.{asking, assuming, with_variable, new_variable, variable}
-use Rattle.sq_sequent.proofs.Hypotheses.{get_member}
-use Rattle.sq_sequent.proofs.Opened.{is_value}
+use Rattle.sq_sequent.specs.Views.{goal_of}
+use Rattle.sq_sequent.specs.Premises.{asking, assuming, with_variable, new_variable}
+use Rattle.sq_formula.proofs.Opened.{is_value}
 use Rattle.sq_sequent.proofs.Reaches.{sorted_within}
 use Rattle.sq_sequent.proofs.Values.{value-closed}
-use Rattle.sq_rules_logic.proofs.FurtherVariable.{ItemWithin, alli_trace, alli_local, exe_trace, exe_local, exe_equiv}
-use Rattle.sq_rules_logic.proofs.Holding.{TrueIn, asked_sound, assume_sound, hyp_true}
+use Rattle.sq_rules_logic.proofs.FurtherVariable.{ItemWithin, alli_trace, alli_local, exe_trace}
+use Rattle.sq_rules_logic.proofs.FurtherVariable.{exe_local, exe_equiv}
+use Rattle.sq_rules_logic.proofs.Holding.{asked_sound, assume_sound, hyp_true}
 use Rattle.sq_rules_logic.proofs.Domains.{IsPlaced, value_member}
 
 -- ---- at a value
 
 module _ (th : Theory) (placed : IsPlaced th.times) (g : Signature) (s : SequentTree)
-    (over : g.vars ≡ vars_of s) (x : Sort) (F : TermTree) (w : ArgTree) (fit : is_value g x w ≡ true) where
+    (over : g.vars ≡ vars_of s) (x : Sort) (F : TermTree) (w : ArgTree)
+    (fit : is_value g x w ≡ true) where
   abbrev at_value : Bool → Assignment → Value → Ground
   at_value left a v = translate (world_at th left) a (v ∷ []) F
 
@@ -47,10 +49,12 @@ module _ (th : Theory) (placed : IsPlaced th.times) (g : Signature) (s : Sequent
   meaning left a = open_law (world_at th left) a w F (value-closed g x w fit)
 
   among : (left : Bool) (a : Assignment) → IsAssignment th (vars_of s) a
-      → Member (map (at_value left a) (domain th.times x)) (at_value left a (arg_value th.times a w))
+      → Member (map (at_value left a) (domain th.times x))
+      (at_value left a (arg_value th.times a w))
   among left a f =
       member-map (at_value left a) (domain th.times x) (arg_value th.times a w)
-      (value_member th.times placed g a (subst (λ vs. Fits th.times vs a.variables) (sym over) f.values)
+      (value_member th.times placed g a
+      (subst (λ vs. Fits th.times vs a.variables) (sym over) f.values)
       x w fit)
 
   pub exi_sound : goal_of s ≡ Some (some x F) → HoldsAt th (asking s (opened w F)) → HoldsAt th s
@@ -61,7 +65,8 @@ module _ (th : Theory) (placed : IsPlaced th.times) (g : Signature) (s : Sequent
       (at_value left a (arg_value th.times a w)) (among left a f)
       (subst (IsTrueAt v) (meaning left a) i))
 
-  pub alle_sound : Member (hyps_of s) (all x F) → HoldsAt th (assuming s (opened w F)) → HoldsAt th s
+  pub alle_sound : Member (hyps_of s) (all x F) → HoldsAt th (assuming s (opened w F))
+      → HoldsAt th s
   alle_sound m =
       assume_sound th s (opened w F)
       (λ left a f v h.
@@ -86,7 +91,8 @@ module _ (g : Signature) (vars : List Sort) (over : g.vars ≡ vars) where
       subst (λ vs. IsWithin (length vs) t) over
       (sorted_within g [] s t (and_split (has_sort g [] s t) (suits about t) h).0)
 
-  all_within : (about : Subject) (ts : List TermTree) → list_all (may_stand g about Boolean) ts ≡ true
+  all_within : (about : Subject) (ts : List TermTree)
+      → list_all (may_stand g about Boolean) ts ≡ true
       → Each (IsWithin (length vars)) ts
   all_within about ts h =
       all_each (may_stand g about Boolean) (IsWithin (length vars)) (within about Boolean) ts h
@@ -94,7 +100,8 @@ module _ (g : Signature) (vars : List Sort) (over : g.vars ≡ vars) where
   item_within : (i : Item) → is_item g i ≡ true → ItemWithin (length vars) i
   item_within (item t u) h = go (has_both_sorts g Message (item t u)) refl h
     where
-      parts : (s : Sort) → has_both_sorts g s (item t u) ≡ true → ItemWithin (length vars) (item t u)
+      parts : (s : Sort) → has_both_sorts g s (item t u) ≡ true
+          → ItemWithin (length vars) (item t u)
       parts s k =
           let p = and_split (may_stand g (of_side Left) s t) (may_stand g (of_side Right) s u) k in
           (within (of_side Left) s t p.0, within (of_side Right) s u p.1)
@@ -117,7 +124,8 @@ module _ (th : Theory) (g : Signature) (x : Sort) (F : TermTree) where
   unfolding goal_of asking with_variable
   alli_sound (trace vars H c) over h e p =
       let z : c ≡ all x F = cc in
-      let k = and_split (list_all (may_stand g of_trace Boolean) H) (may_stand g of_trace Boolean c) h in
+      let k = and_split (list_all (may_stand g of_trace Boolean) H)
+      (may_stand g of_trace Boolean c) h in
       let f : IsWithin (length vars) (all x F) =
       subst (IsWithin (length vars)) z (within g vars over of_trace Boolean c k.1) in
       subst (λ t. HoldsAt th (trace vars H t)) (sym z)
@@ -137,7 +145,8 @@ module _ (th : Theory) (g : Signature) (x : Sort) (F : TermTree) where
       → HoldsAt th (with_variable x (assuming s (opened (new_variable x s) F))) → HoldsAt th s
   unfolding assuming with_variable
   exe_sound (trace vars H c) over h m p =
-      let k = and_split (list_all (may_stand g of_trace Boolean) H) (may_stand g of_trace Boolean c) h in
+      let k = and_split (list_all (may_stand g of_trace Boolean) H)
+      (may_stand g of_trace Boolean c) h in
       exe_trace th vars H x F (all_within g vars over of_trace H k.0) m c
       (within g vars over of_trace Boolean c k.1) p
   exe_sound (local side vars H c) over h m p =

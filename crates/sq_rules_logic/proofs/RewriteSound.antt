@@ -1,7 +1,8 @@
--- The row that rewrites keeps what holds: equal timestamps and indices mean the same, equal messages
--- and equivalent formulas are alike.
-use Rattle.std.proofs.Common.{◌≡◌, ℕ, zero, suc, ◌==◌, refl, sym, ap, ◌∙◌, subst, List, [], ◌∷◌, map, Option, Some, None, Bool, true, false, cond}
-use Rattle.std.specs.Prelude.{slice_set}
+-- The row that rewrites keeps what holds: equal timestamps and indices mean the same, equal
+-- messages and equivalent formulas are alike.
+use Rattle.std.proofs.Common.{◌≡◌, ℕ, zero, suc, ◌==◌, refl, sym, ap, ◌∙◌, subst, List, [], ◌∷◌}
+use Rattle.std.proofs.Common.{map, Option, Some, None, Bool, true, false}
+use Rattle.std.specs.Prelude.{slice_set, if◌then◌else◌}
 use Rattle.std.proofs.lemmas.Bool.Decides.{Decides-eqb}
 use Rattle.sq_base.specs.declared.sort.Sort.{Sort}
 use Rattle.sq_base.specs.declared.sort.Sort.TheVariants.{Message, Boolean, Index, Timestamp}
@@ -26,25 +27,27 @@ use Rattle.sq_typing.specs.Typing.{Signature, is_index, is_timestamp, has_sort}
 use Rattle.sq_typing.proofs.Formulas.{sort-of, suits-of, first-stands, second-stands}
 use Rattle.sq_subst.proofs.Laws.{replace_ts_law, replace_idx_law}
 use Rattle.sq_system.specs.Sequents.{Item, item, SequentTree, trace, local, equiv, hyps_of, body_of}
-use Rattle.sq_system.specs.WellFormed.{subject_of, is_sorted}
+use Rattle.sq_system.specs.WellFormed.{is_sorted}
 use Rattle.sq_ground.specs.Derivations.{HasDerivation}
 use Rattle.sq_ground.specs.Holding.{claim_of, IsTrueFormula, pair_of, HoldsAt}
-use Rattle.sq_ground.specs.Lines.{Pair, alike}
+use Rattle.sq_ground.specs.Lines.{alike}
 use Rattle.sq_ground.specs.Lines as line
 use Rattle.sq_ground.specs.Theories.{Theory, world_at}
 use Rattle.sq_ground.specs.Truth.{value, is_true, IsTrueAt}
 use Rattle.sq_ground.proofs.Congruence.{alike_itself, replaced_law}
-use Rattle.sq_ground.proofs.Propositional.{Proved, claim, by_one, by_two, valid, if_to, and_from, and_left, and_right}
+use Rattle.sq_ground.proofs.Propositional.{Proved, claim, by_one, by_two, valid, if_to, and_from}
+use Rattle.sq_ground.proofs.Propositional.{and_left, and_right}
 use Rattle.sq_ground.proofs.Propositional as ground_rule
-use Rattle.sq_sequent.specs.declared.step.Dir.{Dir}
-use Rattle.sq_sequent.specs.declared.step.Dir.TheVariants.{Forward, Backward}
-use Rattle.sq_sequent.specs.declared.step.Target.{Target}
+use Rattle.sq_step.specs.declared.step.Dir.{Dir}
+use Rattle.sq_step.specs.declared.step.Dir.TheVariants.{Forward, Backward}
+use Rattle.sq_step.specs.declared.step.Target.{Target}
 use Rattle.sq_sequent.specs.Premises.{asking, with_hyps}
-use Rattle.sq_sequent.specs.Rewriting.{Rewriting, term_by, time_by, index_by, turned, rewritten, item_rewritten}
+use Rattle.sq_sequent.specs.Rewriting.{Rewriting, term_by, time_by, index_by, turned, rewritten}
+use Rattle.sq_sequent.specs.Rewriting.{item_rewritten}
 use Rattle.sq_sequent.specs.Rows.{IsOn, Assumes, Equates, Rewritten}
 use Rattle.sq_sequent.specs.Site.{Site}
 use Rattle.sq_sequent.specs.Views.{goal_of, hyp_of}
-use Rattle.sq_sequent.proofs.ClosedSorts.{sorted-closed}
+use Rattle.sq_formula.proofs.ClosedSorts.{sorted-closed}
 use Rattle.sq_sequent.proofs.Hypotheses.{get_member}
 use Rattle.sq_sequent.proofs.Values.{value-closed}
 use Rattle.sq_rules_logic.proofs.EqualityRules.{symmetric}
@@ -138,7 +141,8 @@ module _ (th : Theory) where
         p.0,
         p.1,
         same_times (ts_value th.times a [] x) (ts_value th.times a [] y)
-            (told (is_same_time (ts_value th.times a [] x) (ts_value th.times a [] y)) (λ u. false) h),
+            (told (is_same_time (ts_value th.times a [] x) (ts_value th.times a [] y))
+            (λ u. false) h),
       )
   value_of g at F r a n s (Equates.indices i j) h =
       let p = indices-stand g of_trace i j s in (
@@ -174,11 +178,13 @@ module _ (th : Theory) where
         let z : false ≡ true =
         told false v (ap (value v) (sym e) ∙ hyp_true th H F m left a v h) in absurd (cc))
 
-    turned_iff : (x y : Bool) → cond (cond x y true) (cond y x true) false ≡ true
-        → cond (cond y x true) (cond x y true) false ≡ true
+    turned_iff : (x y : Bool) → (if (if x then y else true) then (if y then x else true) else false)
+        ≡ true
+        → (if (if y then x else true) then (if x then y else true) else false) ≡ true
     turned_iff x y e =
-        and_from (cond y x true) (cond x y true) (and_right (cond x y true) (cond y x true) e)
-        (and_left (cond x y true) (cond y x true) e)
+        and_from (if y then x else true) (if x then y else true)
+        (and_right (if x then y else true) (if y then x else true) e)
+        (and_left (if x then y else true) (if y then x else true) e)
 
     turned_alike : (b : Bool) (u v : Ground) → Proved th left hyps (alike b u v)
         → Proved th left hyps (alike b v u)
@@ -205,9 +211,11 @@ module _ (th : Theory) where
           → AreEquivalent (term_by u v) t
       by_terms u v t k h =
           replaced_law th left hyps g known ok a k.sort u v (sorted-closed g k.sort u k.first)
-          (sorted-closed g k.sort v k.second) k.first k.alike [] [] Boolean t (sort-of g about Boolean t h)
+          (sorted-closed g k.sort v k.second) k.first k.alike [] [] Boolean t
+          (sort-of g about Boolean t h)
 
-      turned_terms : (d : Dir) (u v t : TermTree) → AreAlike u v → may_stand g about Boolean t ≡ true
+      turned_terms : (d : Dir) (u v t : TermTree) → AreAlike u v
+          → may_stand g about Boolean t ≡ true
           → AreEquivalent (turned d (term_by u v)) t
       turned_terms Forward u v t k h = by_terms u v t k h
       turned_terms Backward u v t k h =
@@ -236,7 +244,8 @@ module _ (th : Theory) where
           (record {
             sort = Boolean;
             first = sort-of g about Boolean u (first-stands g about Boolean kind.implication u v p);
-            second = sort-of g about Boolean v (second-stands g about Boolean kind.implication u v p);
+            second = sort-of g about Boolean v
+                (second-stands g about Boolean kind.implication u v p);
             alike = hyp_proved (equivalent u v) m;
           }) h
       equivalent-by at F r d m s (Equates.times x y) t h =
@@ -248,7 +257,8 @@ module _ (th : Theory) where
           (p.0, p.1, same_times (ts_value th.times a [] x) (ts_value th.times a [] y) q))) t
       equivalent-by at F r d m s (Equates.indices i j) t h =
           let p = indices-stand g about i j s in
-          by_truth_of (idx_eq i j) (turned d (index_by i j)) m (idx_value a [] i == idx_value a [] j) refl
+          by_truth_of (idx_eq i j) (turned d (index_by i j)) m
+          (idx_value a [] i == idx_value a [] j) refl
           (λ q. keeping left a (turned d (index_by i j))
           (turned_value a d (index_by i j)
           (p.0, p.1, (Decides-eqb (idx_value a [] i) (idx_value a [] j)).0 q))) t
@@ -293,7 +303,9 @@ module _ (th : Theory) where
       (claim_of (world_at th left) a H t) (p a f left m) (k left a t q)
       (λ v i j h.
       if_to (value v y) (value v x)
-      (and_right (cond (value v x) (value v y) true) (cond (value v y) (value v x) true) (j h)) (i h)))
+      (and_right (if value v x then value v y else true) (if value v y then value v x else true)
+      (j h))
+      (i h)))
   in_goal g (equiv vars H known items) r t k w e p = absurd (cc)
 
   in_hyp : (g : Signature) (s : SequentTree) (r : Rewriting) (n : ℕ) (t : TermTree) → Serves g s r
@@ -314,7 +326,8 @@ module _ (th : Theory) where
       (λ v i j h.
       i (each_set (translate (world_at th left) a []) H n (rewritten r t) (IsTrueAt v) h
       (if_to (value v x) (value v y)
-      (and_left (cond (value v x) (value v y) true) (cond (value v y) (value v x) true) (j h))
+      (and_left (if value v x then value v y else true) (if value v y then value v x else true)
+      (j h))
       (hyp_true th H t (get_member H n t e) left a v h))))
   in_hyp g (equiv vars H known items) r n t k w e p = λ a f h l.
       p a f
@@ -336,7 +349,8 @@ module _ (th : Theory) where
       subst (λ qs. HasDerivation th (line.equiv qs))
       (same_pairs a r (k true a t) (k false a t) items) (p a f t l)
 
-  at_target : (g : Signature) (at : Site) (r : Rewriting) (h : ℕ) (p : Target) (premise : SequentTree)
+  at_target : (g : Signature) (at : Site) (r : Rewriting) (h : ℕ) (p : Target)
+      (premise : SequentTree)
       → Serves g at.sequent r → is_sorted g at.sequent ≡ true → Rewritten at h r p premise
       → HoldsAt th premise → HoldsAt th at.sequent
   at_target g at r h p premise k w (Rewritten.in_goal c e) holds =
@@ -370,4 +384,5 @@ module _ (th : Theory) where
         (premise : SequentTree) → is_sorted g at.sequent ≡ true → Assumes at h F → Equates at F r
         → Rewritten at h (turned d r) p premise → HoldsAt th premise → HoldsAt th at.sequent
     rew_sound at h d p F r premise w q e made holds =
-        at_target g at (turned d r) h p premise (serves at at.sequent refl h F r d w q e) w made holds
+        at_target g at (turned d r) h p premise
+        (serves at at.sequent refl h F r d w q e) w made holds

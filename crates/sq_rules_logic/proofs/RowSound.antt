@@ -1,6 +1,7 @@
 -- The logic rows are sound: where each premise holds, the sequent does.
-use Rattle.std.proofs.Common.{◌≡◌, ◌⊎◌, inl, inr, refl, sym, ap, ◌∙◌, subst, ℕ, List, [], ◌∷◌, map, length, get_or, Option, Some, None, Bool, true, false, cond}
-use Rattle.std.specs.Prelude.{slice_get}
+use Rattle.std.proofs.Common.{◌≡◌, ◌⊎◌, inl, inr, refl, sym, subst, ℕ, List, [], map}
+use Rattle.std.proofs.Common.{length, get_or, Option, Some, None, Bool, true, false}
+use Rattle.std.specs.Prelude.{slice_get, if◌then◌else◌}
 use Rattle.std.specs.List.{list_all}
 use Rattle.std.proofs.lemmas.Option.{get_or_from_slice_get}
 use Rattle.sq_base.specs.declared.sort.Sort.{Sort}
@@ -9,7 +10,6 @@ use Rattle.sq_term.specs.Closed.{is_closed}
 use Rattle.sq_term.specs.Formulas.{truth, falsity, negation, both, either, implies, equal}
 use Rattle.sq_term.specs.Ground.{Ground}
 use Rattle.sq_term.specs.Lists.{Member, here, there, Each}
-use Rattle.sq_term.specs.Models.{IsTraceModel}
 use Rattle.sq_term.specs.Pure.{is_binder_sort}
 use Rattle.sq_term.specs.Syntax.{TermTree, fun, all, some}
 use Rattle.sq_term.specs.Systems.{SystemTree}
@@ -22,23 +22,26 @@ use Rattle.sq_typing.proofs.Formulas.{sort-of}
 use Rattle.sq_system.specs.Sequents.{SequentTree, trace, local, equiv, vars_of, hyps_of, body_of}
 use Rattle.sq_system.specs.Sizes.{fits}
 use Rattle.sq_system.specs.Statements.{StmtTree, EnvTree, no_actions}
-use Rattle.sq_system.specs.Usable.{no_statement, statement_at, system_of}
-use Rattle.sq_system.specs.WellFormed.{signature_of, subject_of, is_sorted, is_sequent_of, is_well_formed_for, is_well_formed, is_environment, IsEnvironment}
+use Rattle.sq_system.specs.Usable.{no_statement, statement_at}
+use Rattle.sq_system.specs.Scopes.{signature_of, subject_of}
+use Rattle.sq_system.specs.WellFormed.{is_sorted, is_sequent_of}
+use Rattle.sq_system.specs.WellFormed.{is_well_formed_for, is_well_formed, is_environment}
 use Rattle.sq_system.proofs.EnvLaws.{environment_parts}
 use Rattle.sq_ground.specs.Goals.{theory_of}
 use Rattle.sq_ground.specs.Holding.{HoldsAt}
 use Rattle.sq_ground.specs.Theories.{Theory, world_at}
-use Rattle.sq_ground.specs.Truth.{value, IsTrueAt}
-use Rattle.sq_ground.proofs.Propositional.{if_from, if_to, not_from, not_to, and_from, and_left, and_right, or_left, or_right, or_cases}
+use Rattle.sq_ground.specs.Truth.{value}
+use Rattle.sq_ground.proofs.Propositional.{if_from, if_to, not_from, not_to, and_from, and_left}
+use Rattle.sq_ground.proofs.Propositional.{and_right, or_left, or_right, or_cases}
 use Rattle.sq_ground.proofs.Propositional as ground_rule
-use Rattle.sq_sequent.specs.declared.step.Step.{Step}
-use Rattle.sq_sequent.specs.declared.step.TermArg.{TermArg}
+use Rattle.sq_step.specs.declared.step.Step.{Step}
+use Rattle.sq_step.specs.declared.step.TermArg.{TermArg}
 use Rattle.sq_sequent.specs.Premises.{with_hyps, without}
 use Rattle.sq_sequent.specs.Rows.{Row, Assumes, IsTerm}
 use Rattle.sq_sequent.specs.Site.{Site}
 use Rattle.sq_sequent.specs.Standing.{signature_at, may_stand}
 use Rattle.sq_sequent.specs.Views.{goal_of, local_goal_of, hyp_of}
-use Rattle.sq_sequent.proofs.ClosedSorts.{sorted-closed}
+use Rattle.sq_formula.proofs.ClosedSorts.{sorted-closed}
 use Rattle.sq_sequent.proofs.Hypotheses.{get_member, member-without}
 use Rattle.sq_sequent.proofs.Terms.{term-stands}
 use Rattle.sq_sequent.proofs.Values.{value-sort}
@@ -46,7 +49,9 @@ use Rattle.sq_rules_logic.specs.Soundness.{EarlierHoldAt, PremisesSuffice, RowSo
 use Rattle.sq_rules_logic.proofs.Domains.{placed_times}
 use Rattle.sq_rules_logic.proofs.EquationSound.{itself_sound, sym_sound, trans_sound, arg_sound}
 use Rattle.sq_rules_logic.proofs.FactSound.{known_sound, fact_known}
-use Rattle.sq_rules_logic.proofs.Holding.{TrueIn, AllTrueIn, hyp_true, assume_both_sound, absurd_sound, cut_sound, contrary_sound, cases_sound, goal_sound, asked_sound, both_asked_sound, intro_sound}
+use Rattle.sq_rules_logic.proofs.Holding.{TrueIn, AllTrueIn, hyp_true, assume_both_sound}
+use Rattle.sq_rules_logic.proofs.Holding.{absurd_sound, cut_sound, contrary_sound, cases_sound}
+use Rattle.sq_rules_logic.proofs.Holding.{goal_sound, asked_sound, both_asked_sound, intro_sound}
 use Rattle.sq_rules_logic.proofs.QuantifierSound.{alli_sound, exi_sound, alle_sound, exe_sound}
 use Rattle.sq_rules_logic.proofs.RewriteSound.{rew_sound}
 use Rattle.sq_rules_logic.proofs.SideSound.{proj_sound, trace_sound}
@@ -61,9 +66,11 @@ statement_of : (env : EnvTree) (goal : ℕ) (s : SequentTree) (o : Option StmtTr
     (length (statement_at env goal).schemas) s ≡ true
 statement_of env goal s None e h = let z : false ≡ true = h in absurd (cc)
 statement_of env goal s (Some st) e h =
-    let there : statement_at env goal ≡ st = get_or_from_slice_get env.stmts goal st no_statement e in
+    let there : statement_at env goal
+    ≡ st = get_or_from_slice_get env.stmts goal st no_statement e in
     subst
-    (λ (q : StmtTree). is_sequent_of env (slice_get env.systems q.system) (length q.schemas) s ≡ true)
+    (λ (q : StmtTree). is_sequent_of env (slice_get env.systems q.system) (length q.schemas) s
+    ≡ true)
     (sym there) h
 
 sorted_over : (env : EnvTree) (n schemas : ℕ) (s : SequentTree) (o : Option SystemTree)
@@ -71,7 +78,8 @@ sorted_over : (env : EnvTree) (n schemas : ℕ) (s : SequentTree) (o : Option Sy
     → is_sorted (signature_of env (get_or env.systems n no_actions) schemas (vars_of s)) s ≡ true
 sorted_over env n schemas s None e h = let z : false ≡ true = h in absurd (cc)
 sorted_over env n schemas s (Some x) e h =
-    let there : get_or env.systems n no_actions ≡ x = get_or_from_slice_get env.systems n x no_actions e in
+    let there : get_or env.systems n no_actions
+    ≡ x = get_or_from_slice_get env.systems n x no_actions e in
     let g : Signature = signature_of env x schemas (vars_of s) in
     subst (λ y. is_sorted (signature_of env y schemas (vars_of s)) s ≡ true) (sym there)
     (and_split (is_sorted g s) (fits s) (and_split (list_all is_binder_sort (vars_of s)) _ h).1).0
@@ -86,7 +94,7 @@ sorted_at at h =
 
 -- ---- hypotheses
 
-one_of_both : (b : Bool) → (b ≡ true) ⊎ (cond b false true ≡ true)
+one_of_both : (b : Bool) → (b ≡ true) ⊎ ((if b then false else true) ≡ true)
 one_of_both true = inl refl
 one_of_both false = inr refl
 

@@ -2,7 +2,7 @@
 -- program gathers them.
 use Rattle.std.proofs.Common.{◌≡◌, ◌≢◌, ℕ, suc, ◌+◌, ◌<◌, ◌≤◌, max, refl, sym, ap, ◌∙◌}
 use Rattle.std.proofs.Common.{List, [], ◌∷◌, ◌++◌, map, length, drop, get_or, Bool, true, false}
-use Rattle.std.proofs.Common.{cond, ◌&&◌, nat_le, add-one, arith, Ok, Err}
+use Rattle.std.proofs.Common.{◌&&◌, nat_le, add-one, arith, Ok, Err}
 use Rattle.std.specs.Prelude.{if◌then◌else◌}
 use Rattle.std.proofs.Math.Seq.{drop-cons}
 use Rattle.sq_base.specs.declared.sort.Sort.{Sort}
@@ -18,9 +18,11 @@ use Rattle.sq_subst.specs.Room.{within}
 use Rattle.sq_system.specs.Limits.{most_nodes, most_depth}
 use Rattle.sq_system.specs.Sequents.{SequentTree, local}
 use Rattle.sq_system.specs.Sizes.{all_size, all_depth, fits}
-use Rattle.sq_sequent.specs.declared.fault.RuleFault.{RuleFault}
-use Rattle.sq_sequent.specs.declared.fault.RuleFault.TheVariants.{TooLarge, NoMemory}
-use Rattle.sq_sequent.specs.Sides.{on_side, side_fits, sides_fit, IsPastLimits}
+use Rattle.sq_system.specs.declared.fault.RuleFault.{RuleFault}
+use Rattle.sq_system.specs.declared.fault.RuleFault.TheVariants.{TooLarge, NoMemory}
+use Rattle.sq_formula.specs.Refusals.{IsPastLimits}
+use Rattle.sq_sequent.specs.Sides.{on_side}
+use Rattle.sq_rules_logic.specs.SideLimits.{side_fits, sides_fit}
 use Rattle.sq_sequent.specs.Logic.{within_limits}
 use Rattle.sq_sequent.proofs.Held.{larger}
 
@@ -46,54 +48,71 @@ sides_unfit side (t ∷ ts) m d h i j =
         → (nat_le m most_nodes && nat_le d most_depth) ≡ false
     go true e k further = further k
     go false e k further =
-        larger (size (projected side t)) (depth (projected side t)) m d e (omega arith) (omega arith)
+        larger (size (projected side t)) (depth (projected side t)) m d e (omega arith)
+        (omega arith)
 
 hyps-too-large : (side : Side) (vars : List Sort) (H : List TermTree) (g : TermTree)
     → sides_fit side H ≡ false → fits (on_side side (local Both vars H g)) ≡ false
 hyps-too-large side vars H g h =
     sides_unfit side H (all_size (map (projected side) H) + size (projected side g))
-    (max (all_depth (map (projected side) H)) (depth (projected side g))) h (omega arith) (omega arith)
+    (max (all_depth (map (projected side) H)) (depth (projected side g))) h (omega arith)
+    (omega arith)
 
 goal-too-large : (side : Side) (vars : List Sort) (H : List TermTree) (g : TermTree)
     → side_fits side g ≡ false → fits (on_side side (local Both vars H g)) ≡ false
 goal-too-large side vars H g h =
     larger (size (projected side g)) (depth (projected side g))
     (all_size (map (projected side) H) + size (projected side g))
-    (max (all_depth (map (projected side) H)) (depth (projected side g))) h (omega arith) (omega arith)
+    (max (all_depth (map (projected side) H)) (depth (projected side g))) h (omega arith)
+    (omega arith)
 
 -- ---- lists
 
-trees-push : (xs : List Term) (x : Term) (y : TermTree) (ys : List TermTree) → term_tree x ≡ y → map term_tree (xs ++ x ∷ []) ++ ys ≡ map term_tree xs ++ (y ∷ ys)
+trees-push : (xs : List Term) (x : Term) (y : TermTree) (ys : List TermTree) → term_tree x ≡ y
+    → map term_tree (xs ++ x ∷ []) ++ ys ≡ map term_tree xs ++ (y ∷ ys)
 trees-push [] x y ys e = ap (λ t. t ∷ ys) e
 trees-push (z ∷ xs) x y ys e = ap (λ t. term_tree z ∷ t) (trees-push xs x y ys e)
 
-rest_is : (terms : List Term) (i : ℕ) (t : Term) → i < length terms → t ≡ get_or terms i t → drop i terms ≡ t ∷ drop (i + 1) terms
-rest_is terms i t h e = rw add-one (drop-cons terms i t h ∙ ap (λ x. x ∷ drop (suc i) terms) (sym e))
+rest_is : (terms : List Term) (i : ℕ) (t : Term) → i < length terms → t ≡ get_or terms i t
+    → drop i terms ≡ t ∷ drop (i + 1) terms
+rest_is terms i t h e = rw add-one
+    (drop-cons terms i t h ∙ ap (λ x. x ∷ drop (suc i) terms) (sym e))
 
-pub sides-kept : (side : Side) (terms out out' : List Term) (i : ℕ) (t x : Term) (r : List TermTree) → i < length terms → t ≡ get_or terms i t
+pub sides-kept : (side : Side) (terms out out' : List Term) (i : ℕ) (t x : Term) (r : List TermTree)
+    → i < length terms → t ≡ get_or terms i t
     → term_tree x ≡ projected side (term_tree t) → out' ≡ out ++ x ∷ []
-    → map term_tree out ++ map (projected side) (map term_tree (drop i terms)) ≡ r → map term_tree out' ++ map (projected side) (map term_tree (drop (i + 1) terms)) ≡ r
+    → map term_tree out ++ map (projected side) (map term_tree (drop i terms)) ≡ r
+    → map term_tree out' ++ map (projected side) (map term_tree (drop (i + 1) terms)) ≡ r
 sides-kept side terms out out' i t x r h e p o inv =
     ap (λ l. map term_tree l ++ map (projected side) (map term_tree (drop (i + 1) terms))) o
-    ∙ (trees-push out x (projected side (term_tree t)) (map (projected side) (map term_tree (drop (i + 1) terms))) p
-    ∙ (ap (λ l. map term_tree out ++ map (projected side) (map term_tree l)) (sym (rest_is terms i t h e)) ∙ inv))
+    ∙ (trees-push out x (projected side (term_tree t))
+    (map (projected side) (map term_tree (drop (i + 1) terms))) p
+    ∙ (ap (λ l. map term_tree out ++ map (projected side) (map term_tree l))
+    (sym (rest_is terms i t h e)) ∙ inv))
 
 -- what does not fit behind item i does not fit from it on
-pub fit-step : (side : Side) (terms : List Term) (i : ℕ) (t : Term) → i < length terms → t ≡ get_or terms i t
-    → (sides_fit side (map term_tree (drop i terms)) ≡ false → sides_fit side (map term_tree terms) ≡ false)
-    → sides_fit side (map term_tree (drop (i + 1) terms)) ≡ false → sides_fit side (map term_tree terms) ≡ false
+pub fit-step : (side : Side) (terms : List Term) (i : ℕ) (t : Term) → i < length terms
+    → t ≡ get_or terms i t
+    → (sides_fit side (map term_tree (drop i terms)) ≡ false
+    → sides_fit side (map term_tree terms) ≡ false)
+    → sides_fit side (map term_tree (drop (i + 1) terms)) ≡ false
+    → sides_fit side (map term_tree terms) ≡ false
 fit-step side terms i t h e inv f =
-    inv (ap (λ l. sides_fit side (map term_tree l)) (rest_is terms i t h e) ∙ second_fails (side_fits side (term_tree t)) (sides_fit side (map term_tree (drop (i + 1) terms))) f)
+    inv (ap (λ l. sides_fit side (map term_tree l)) (rest_is terms i t h e) ∙ second_fails
+    (side_fits side (term_tree t)) (sides_fit side (map term_tree (drop (i + 1) terms))) f)
   where
     second_fails : (a b : Bool) → b ≡ false → (a && b) ≡ false
     second_fails true b e = e
     second_fails false b e = refl
 
-pub fit-stop : (side : Side) (terms : List Term) (i : ℕ) (t : Term) → i < length terms → t ≡ get_or terms i t
-    → (sides_fit side (map term_tree (drop i terms)) ≡ false → sides_fit side (map term_tree terms) ≡ false)
+pub fit-stop : (side : Side) (terms : List Term) (i : ℕ) (t : Term) → i < length terms
+    → t ≡ get_or terms i t
+    → (sides_fit side (map term_tree (drop i terms)) ≡ false
+    → sides_fit side (map term_tree terms) ≡ false)
     → side_fits side (term_tree t) ≡ false → sides_fit side (map term_tree terms) ≡ false
 fit-stop side terms i t h e inv f =
-    inv (ap (λ l. sides_fit side (map term_tree l)) (rest_is terms i t h e) ∙ ap (λ b. b && sides_fit side (map term_tree (drop (i + 1) terms))) f)
+    inv (ap (λ l. sides_fit side (map term_tree l)) (rest_is terms i t h e) ∙ ap
+    (λ b. b && sides_fit side (map term_tree (drop (i + 1) terms))) f)
 
 pub second-fails : (a b : Bool) → b ≡ false → (a && (b && true)) ≡ false
 second-fails true b e = ap (λ x. x && true) e
@@ -101,28 +120,36 @@ second-fails false b e = refl
 
 -- ---- why a row has no premises
 
-pub answered : (side : Side) (t : TermTree) (c : TermTree) → within most_nodes (projected side t) ≡ Ok c → c ≡ projected side t
+pub answered : (side : Side) (t : TermTree) (c : TermTree)
+    → within most_nodes (projected side t) ≡ Ok c → c ≡ projected side t
 answered side t c = go (side_fits side t)
   where
-    go : (b : Bool) → (if b then Ok (projected side t) else Err size_fault.TooLarge) ≡ Ok c → c ≡ projected side t
+    go : (b : Bool) → (if b then Ok (projected side t) else Err size_fault.TooLarge) ≡ Ok c
+        → c ≡ projected side t
     go true e = cc
     go false e = absurd (cc)
 
-pub hyps-past : (e : RuleFault) (side : Side) (vars : List Sort) (H : List TermTree) (g : TermTree) → IsPastLimits e (sides_fit side H) → IsPastLimits e (fits (on_side side (local Both vars H g)))
+pub hyps-past : (e : RuleFault) (side : Side) (vars : List Sort) (H : List TermTree) (g : TermTree)
+    → IsPastLimits e (sides_fit side H) → IsPastLimits e (fits (on_side side (local Both vars H g)))
 hyps-past e side vars H g h n = ((h n).0, hyps-too-large side vars H g (h n).1)
 
-pub goal-past : (e : RuleFault) (side : Side) (vars : List Sort) (H : List TermTree) (g : TermTree) → IsPastLimits e (side_fits side g) → IsPastLimits e (fits (on_side side (local Both vars H g)))
+pub goal-past : (e : RuleFault) (side : Side) (vars : List Sort) (H : List TermTree) (g : TermTree)
+    → IsPastLimits e (side_fits side g) → IsPastLimits e (fits (on_side side (local Both vars H g)))
 goal-past e side vars H g h n = ((h n).0, goal-too-large side vars H g (h n).1)
 
-pub first-refused : (e : RuleFault) (p q : SequentTree) → IsPastLimits e (fits p) → e ≢ NoMemory → within_limits (p ∷ q ∷ []) ≡ Err e
+pub first-refused : (e : RuleFault) (p q : SequentTree) → IsPastLimits e (fits p) → e ≢ NoMemory
+    → within_limits (p ∷ q ∷ []) ≡ Err e
 unfolding within_limits
 first-refused e p q h n =
-    ap (λ b. cond (b && (fits q && true)) (Ok (p ∷ q ∷ [])) (Err TooLarge)) (h n).1 ∙ ap Err (sym (h n).0)
+    ap (λ b. if b && (fits q && true) then Ok (p ∷ q ∷ []) else Err TooLarge) (h n).1 ∙ ap Err
+    (sym (h n).0)
 
-pub second-refused : (e : RuleFault) (p q : SequentTree) → IsPastLimits e (fits q) → e ≢ NoMemory → within_limits (p ∷ q ∷ []) ≡ Err e
+pub second-refused : (e : RuleFault) (p q : SequentTree) → IsPastLimits e (fits q) → e ≢ NoMemory
+    → within_limits (p ∷ q ∷ []) ≡ Err e
 unfolding within_limits
 second-refused e p q h n =
-    ap (λ b. cond b (Ok (p ∷ q ∷ [])) (Err TooLarge)) (second-fails (fits p) (fits q) (h n).1) ∙ ap Err (sym (h n).0)
+    ap (λ b. if b then Ok (p ∷ q ∷ []) else Err TooLarge)
+    (second-fails (fits p) (fits q) (h n).1) ∙ ap Err (sym (h n).0)
 
 pub ruleset side_rules = (answered, refused)
 

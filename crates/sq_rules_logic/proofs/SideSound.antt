@@ -46,12 +46,14 @@ module _ (th : Theory) where
       (read left a (projected side g))
       → ground_rule.Proved th left (map (read left a) H) (read left a g)
   same_line side left a H g e p =
-      subst (λ hs. ground_rule.Proved th left hs (read left a g)) (same_hyps (world_at th left) a side e H)
+      subst (λ hs. ground_rule.Proved th left hs (read left a g))
+      (same_hyps (world_at th left) a side e H)
       (subst (λ c. ground_rule.Proved th left (map (read left a) (map (projected side) H)) c)
       (project_law (world_at th left) a [] side g e) p)
 
   on_each : (vars : List Sort) (H : List TermTree) (g : TermTree)
-      → HoldsAt th (on_side Left (local Both vars H g)) → HoldsAt th (on_side Right (local Both vars H g))
+      → HoldsAt th (on_side Left (local Both vars H g))
+      → HoldsAt th (on_side Right (local Both vars H g))
       → (left : Bool) (a : Assignment) → IsAssignment th vars a
       → ground_rule.Proved th left (map (read left a) H) (read left a g)
   on_each vars H g p q true a f = same_line Left true a H g refl (p a f true here)
@@ -67,7 +69,8 @@ module _ (th : Theory) where
 
   -- ---- trace
 
-  -- a trace formula is true on a side and under a valuation where it is plainly true, and the other way round
+  -- a trace formula is true on a side and under a valuation where it is plainly true, and the other
+  -- way round
   plainly : (left : Bool) (a : Assignment) (v : Ground → Bool) (t : TermTree) → is_pure t ≡ true
       → TrueIn th left a v t → IsTrueFormula th a t
   plainly left a v t p h = sym (one_truth th a t p left v) ∙ h

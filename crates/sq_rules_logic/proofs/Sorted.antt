@@ -1,5 +1,5 @@
 -- What stands in a well-sorted sequent.
-use Rattle.std.proofs.Common.{◌≡◌, ℕ, zero, suc, ap, ◌∙◌, sym, List, [], ◌∷◌, Some, Bool, true}
+use Rattle.std.proofs.Common.{◌≡◌, ℕ, zero, suc, ap, ◌∙◌, List, [], ◌∷◌, Some, Bool, true}
 use Rattle.std.specs.Prelude.{slice_get}
 use Rattle.std.specs.List.{list_all}
 use Rattle.sq_base.specs.declared.sort.Sort.TheVariants.{Boolean}
@@ -8,7 +8,8 @@ use Rattle.sq_term.proofs.BoolTests.{and_split}
 use Rattle.sq_typing.specs.Standing.{of_trace, of_side, may_stand}
 use Rattle.sq_typing.specs.Typing.{Signature}
 use Rattle.sq_system.specs.Sequents.{SequentTree, sequent, trace, local, equiv, body_of}
-use Rattle.sq_system.specs.WellFormed.{subject_of, is_sorted_body, is_sorted}
+use Rattle.sq_system.specs.Scopes.{subject_of}
+use Rattle.sq_system.specs.WellFormed.{is_sorted_body, is_sorted}
 use Rattle.sq_sequent.specs.Views.{goal_of, hyp_of}
 
 all-at : {A : Type 0} (p : A → Bool) (xs : List A) (k : ℕ) (x : A) → list_all p xs ≡ true

@@ -1,5 +1,6 @@
 -- What a usable axiom or lemma says of messages has a derivation.
-use Rattle.std.proofs.Common.{◌≡◌, ℕ, ◌+◌, ◌<◌, refl, sym, ap, ◌∙◌, subst, List, [], ◌∷◌, map, length, Bool, true, false, not, nat_lt, arith}
+use Rattle.std.proofs.Common.{◌≡◌, ℕ, ◌<◌, refl, sym, ap, ◌∙◌, subst, List, [], ◌∷◌, map}
+use Rattle.std.proofs.Common.{length, Bool, true, false, not, nat_lt, arith}
 use Rattle.std.specs.Prelude.{if◌then◌else◌, ◌&&◌}
 use Rattle.std.specs.List.{list_all}
 use Rattle.std.proofs.lemmas.Bool.Decides.{nat_tests}
@@ -14,14 +15,14 @@ use Rattle.sq_term.specs.Syntax.{TermTree}
 use Rattle.sq_term.specs.Translate.{World, Assignment, translate}
 use Rattle.sq_term.proofs.BoolTests.{and_split, and_both}
 use Rattle.sq_term.proofs.Members.{each_none, each_cons, member-flat_map}
-use Rattle.sq_typing.specs.Typing.{Signature, has_sort}
-use Rattle.sq_typing.specs.Standing as typing
+use Rattle.sq_typing.specs.Typing.{has_sort}
 use Rattle.sq_typing.proofs.Formulas.{sort-of}
 use Rattle.sq_subst.specs.Laws.{is_read_on, terms_closed, instance_values}
 use Rattle.sq_system.specs.Sequents.{SequentTree, local, vars_of, body_of}
 use Rattle.sq_system.specs.Statements.{EnvTree}
-use Rattle.sq_system.specs.Usable.{is_axiom, formula_of, statement_at, system_of, usable}
-use Rattle.sq_system.specs.WellFormed.{subject_of, is_environment}
+use Rattle.sq_system.specs.Usable.{is_axiom, formula_of, statement_at, usable}
+use Rattle.sq_system.specs.Scopes.{subject_of}
+use Rattle.sq_system.specs.WellFormed.{is_environment}
 use Rattle.sq_ground.specs.Derivations.{HasDerivation, IsInstance}
 use Rattle.sq_ground.specs.Goals.{theory_of}
 use Rattle.sq_ground.specs.GroundSorts.{IsMessage}
@@ -30,13 +31,13 @@ use Rattle.sq_ground.specs.Lines.{fact}
 use Rattle.sq_ground.specs.Theories.{Theory, world_at}
 use Rattle.sq_ground.proofs.Derivations.{derive_axiom}
 use Rattle.sq_ground.proofs.RecordSorts.{translations_keep}
-use Rattle.sq_sequent.specs.declared.step.TermArg.{TermArg}
+use Rattle.sq_step.specs.declared.step.TermArg.{TermArg}
 use Rattle.sq_sequent.specs.Premises.{assuming}
 use Rattle.sq_sequent.specs.Rows.{IsOn, AreMessages, Offers}
 use Rattle.sq_sequent.specs.Site.{Site}
 use Rattle.sq_sequent.specs.Standing.{signature_at, may_stand}
-use Rattle.sq_sequent.specs.Uses.{instance_on}
-use Rattle.sq_sequent.proofs.ClosedSorts.{sorted-closed}
+use Rattle.sq_sequent.specs.Sides.{instance_on}
+use Rattle.sq_formula.proofs.ClosedSorts.{sorted-closed}
 use Rattle.sq_sequent.proofs.Offers.{IsStated, signature_at_start, offered-stated}
 use Rattle.sq_sequent.proofs.Terms.{messages-stand, messages-count}
 use Rattle.sq_rules_logic.specs.Soundness.{EarlierHoldAt}
@@ -73,7 +74,8 @@ module _ (at : Site) where
     messages_mean (t ∷ ts) h =
         let p = and_split (may_stand at Message t) _ h in
         each_cons (read t) (map read ts) (IsMessage at.env.funs)
-        (translations_keep at.env at.goal m left (signature_at at).schemas (vars_of at.sequent) a Message t
+        (translations_keep at.env at.goal m left (signature_at at).schemas
+        (vars_of at.sequent) a Message t
         kept given (message_sort t p.0))
         (messages_mean ts p.1)
 
@@ -99,7 +101,8 @@ module _ (env : EnvTree) (goal : ℕ) (m : Model) (earlier : EarlierHoldAt env g
   among_axioms : is_axiom (statement_at env k).kind ≡ true → Member th.axioms F
   among_axioms a =
       let lower : k < goal = below (and_split (nat_lt k goal) _ may).0 in
-      member-flat_map axioms_from (count 0 goal) k F (count-member 0 goal k (omega arith) (omega arith))
+      member-flat_map axioms_from (count 0 goal) k F
+      (count-member 0 goal k (omega arith) (omega arith))
       (subst (λ b. Member (if b then formula_of start ∷ [] else []) F)
       (sym (and_both (is_axiom (statement_at env k).kind) (usable env goal k) a may))
       (subst (λ t. Member (t ∷ []) F) (sym (ap formula_of stated.starts)) here))
@@ -120,7 +123,8 @@ module _ (env : EnvTree) (goal : ℕ) (m : Model) (earlier : EarlierHoldAt env g
           → HasDerivation th (fact left (translate (world_at th left) (with_schemas messages) [] F))
       go true a = derive_axiom th _ (IsInstance.instance left F messages (among_axioms a) given)
       go false a =
-          let h : HoldsAt th (local Both [] [] F) = subst (HoldsAt th) stated.starts (earlier k may a) in
+          let h : HoldsAt th (local Both [] [] F) = subst (HoldsAt th) stated.starts
+          (earlier k may a) in
           h (with_schemas messages) (record { values = tt; messages = given }) left (on_side left)
 
 -- ---- the row
@@ -149,14 +153,16 @@ use_sound at m kept earlier k args s F ts on offer given p =
         → IsAssignment (theory_of at.env at.goal m) (vars_of at.sequent) a
         → Known (theory_of at.env at.goal m) left a (instance_on s ts F)
     known left i a f =
-        let stated : IsStated at.env k (length args) F = offered-stated at k (length args) F kept offer in
+        let stated : IsStated at.env k (length args) F = offered-stated at k
+        (length args) F kept offer in
         let stand : list_all (may_stand at Message) ts ≡ true = messages-stand at args ts given in
         let w : World = world_at (theory_of at.env at.goal m) left in
         let same : translate w a [] (instance_on s ts F)
         ≡ translate w (instance_values w a [] ts) [] F =
         instance_meaning (signature_at_start at.env k) (length (statement_at at.env k).schemas) ts
         (messages-count at args ts given ∙ stated.count) w a s F
-        (read_there (theory_of at.env at.goal m) s left i) (messages_closed at ts stand) stated.sorted in
+        (read_there (theory_of at.env at.goal m) s left i)
+        (messages_closed at ts stand) stated.sorted in
         subst (λ t. HasDerivation (theory_of at.env at.goal m) (fact left t)) (sym same)
         (formula_derived at.env at.goal m earlier k (length args) F offer.is_usable stated left
         (map (translate w a []) ts) (messages_mean at kept m left a f.messages ts stand))

@@ -1,19 +1,15 @@
 -- What a step answers, by the rows of the calculus.
-use Rattle.std.specs.Prelude.{◌≡◌, List, true, false, Result, Ok, Err}
+use Rattle.std.specs.Prelude.{◌≡◌, List, false, Result, Ok, Err}
 use Rattle.sq_system.specs.declared.sequent.Sequent.{Sequent}
 use Rattle.sq_system.specs.Sequents.{SequentTree}
 use Rattle.sq_system.specs.Sizes.{all_fit}
-use Rattle.sq_sequent.specs.declared.fault.RuleFault.{RuleFault}
-use Rattle.sq_sequent.specs.declared.fault.RuleFault.TheVariants.{Shape, HasSchema, BadOccurrence, TooLarge, NoMemory}
-use Rattle.sq_sequent.specs.declared.step.Step.{Step}
+use Rattle.sq_system.specs.declared.fault.RuleFault.{RuleFault}
+use Rattle.sq_system.specs.declared.fault.RuleFault.TheVariants.{Shape, HasSchema, BadOccurrence}
+use Rattle.sq_system.specs.declared.fault.RuleFault.TheVariants.{TooLarge, NoMemory}
+use Rattle.sq_step.specs.declared.step.Step.{Step}
 use Rattle.sq_sequent.specs.Logic.{sequent_trees}
-use Rattle.sq_sequent.specs.Rows.{Row}
+use Rattle.sq_sequent.specs.Rows.{Row, Replaces}
 use Rattle.sq_sequent.specs.Site.{Site}
-
--- the step replaces the sequent by these premises: those of its row, which are within the limits
-pub record Replaces (at : Site) (step : Step) (premises : List SequentTree) : Type 0 where
-  pub by_row : Row at step premises
-  pub fit : all_fit premises ≡ true
 
 -- the row's premises; Shape where no row applies, TooLarge where a premise passes the limits
 abbrev pub Answers : Site → Step → Result (List Sequent) RuleFault → Type 0

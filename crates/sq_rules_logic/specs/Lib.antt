@@ -1,2 +1,3 @@
+pub mod SideLimits
 pub mod Soundness
 pub mod Answers

@@ -9,7 +9,7 @@ use Rattle.sq_system.specs.Usable.{usable, is_axiom, statement_at, system_of}
 use Rattle.sq_system.specs.WellFormed.{is_well_formed, IsEnvironment}
 use Rattle.sq_ground.specs.Goals.{theory_of}
 use Rattle.sq_ground.specs.Holding.{HoldsAt}
-use Rattle.sq_sequent.specs.declared.step.Step.{Step}
+use Rattle.sq_step.specs.declared.step.Step.{Step}
 use Rattle.sq_sequent.specs.Rows.{Row}
 use Rattle.sq_sequent.specs.Site.{Site}
 
@@ -23,8 +23,8 @@ EarlierHoldAt env g m =
 abbrev pub EarlierHold : EnvTree → ℕ → Type 0
 EarlierHold env g = (m : Model) → IsTraceModel (system_of env g) m → EarlierHoldAt env g m
 
--- Where the sequent is well-formed for its goal, it holds at a model of the goal's system wherever the
--- earlier lemmas and equivalences and each premise do.
+-- Where the sequent is well-formed for its goal, it holds at a model of the goal's system wherever
+-- the earlier lemmas and equivalences and each premise do.
 abbrev pub PremisesSuffice : Site → List SequentTree → Type 0
 PremisesSuffice at premises =
     is_well_formed at.env at.goal at.sequent ≡ true

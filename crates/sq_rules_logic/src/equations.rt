@@ -8,7 +8,7 @@ ghost use Rattle.sq_system.specs.Sequents.{sequent_tree};
 ghost use Rattle.sq_sequent.specs.Logic as spec;
 ghost use Rattle.sq_sequent.specs.Logic.{sequent_trees, judged};
 ghost use Rattle.sq_sequent.specs.Premises as premise;
-ghost use Rattle.sq_sequent.specs.Site.{site_tree};
+ghost use Rattle.sq_sequent.specs.Sites.{site_tree};
 ghost use Rattle.sq_sequent.specs.Standing as standing;
 ghost use Rattle.sq_sequent.specs.Views as view;
 
@@ -23,7 +23,8 @@ use std::alloc::Global;
 
 /// The goal is an equation of one term, timestamp or index.
 pub fn refl(alloc: Global, s: &Sequent) -> Result<Seq<Sequent>, RuleFault>
-    ensures { Gives RuleFault.NoMemory sequent_trees result (judged (spec.refl_row (sequent_tree s.now))) }
+    ensures { Gives RuleFault.NoMemory sequent_trees result
+        (judged (spec.refl_row (sequent_tree s.now))) }
 {
     match s {
         Sequent::Trace { goal, .. } => closing(alloc, is_reflexive(false, goal)),
@@ -65,7 +66,8 @@ fn by_way_of(
     ensures { Gives RuleFault.NoMemory sequent_trees result
         (spec.within_limits
         (premise.asking (sequent_tree s.now) (formula.equal (term_tree u.now) (term_tree w.now))
-        ∷ premise.asking (sequent_tree s.now) (formula.equal (term_tree w.now) (term_tree v.now)) ∷ [])) }
+        ∷ premise.asking (sequent_tree s.now) (formula.equal (term_tree w.now) (term_tree v.now))
+        ∷ [])) }
 {
     let first = asking_equal(alloc, s, u, w)?;
     let second = asking_equal(alloc, s, w, v)?;
@@ -103,7 +105,8 @@ pub fn arg(alloc: Global, s: &Sequent) -> Result<Seq<Sequent>, RuleFault>
 
 /// The trace formulas among the hypotheses, and the goal where it is one, else false.
 pub fn trace(alloc: Global, s: &Sequent) -> Result<Seq<Sequent>, RuleFault>
-    ensures { Gives RuleFault.NoMemory sequent_trees result (judged (spec.trace_row (sequent_tree s.now))) }
+    ensures { Gives RuleFault.NoMemory sequent_trees result
+        (judged (spec.trace_row (sequent_tree s.now))) }
 {
     match s {
         Sequent::Trace { .. } => Err(RuleFault::Shape),

@@ -6,7 +6,7 @@ ghost use Rattle.sq_base.specs.Gives.{Gives};
 ghost use Rattle.sq_term.specs.Lists.{Each};
 ghost use Rattle.sq_sequent.specs.Laws.{IsWellFormed};
 ghost use Rattle.sq_sequent.specs.Logic.{sequent_trees, logic_premises};
-ghost use Rattle.sq_sequent.specs.Site.{site_tree};
+ghost use Rattle.sq_sequent.specs.Sites.{site_tree};
 ghost use Rattle.sq_rules_logic.specs.Answers.{Answers};
 ghost use Rattle.sq_rules_logic.specs.Soundness.{PremisesSuffice};
 
@@ -27,7 +27,8 @@ use std::alloc::Global;
 /// Shape comes where the row does not apply or the step is of another family, TooLarge where a
 /// premise would pass the limits of a sequent.
 pub fn premises(alloc: Global, at: &Site, step: &Step) -> Result<Seq<Sequent>, RuleFault>
-    ensures exact { Gives RuleFault.NoMemory sequent_trees result (logic_premises (site_tree at.now) step.now) }
+    ensures exact { Gives RuleFault.NoMemory sequent_trees result
+        (logic_premises (site_tree at.now) step.now) }
     ensures rows { Answers (site_tree at.now) step.now result }
     ensures well_formed { IfOk result (λ ps. let here = site_tree at.now in
         IsWellFormed here here.sequent → Each (IsWellFormed here) (sequent_trees ps)) }
@@ -36,10 +37,12 @@ pub fn premises(alloc: Global, at: &Site, step: &Step) -> Result<Seq<Sequent>, R
     row(alloc, at, step)
 }
 
-// Apart from `premises`, so that what follows from the exact answer is shown once and not in each arm.
+// Apart from `premises`, so that what follows from the exact answer is shown once and not in each
+// arm.
 #[tactic(auto, unfolding(sq_sequent::specs::Logic::logic_row, sq_sequent::specs::Logic::logic_premises))]
 fn row(alloc: Global, at: &Site, step: &Step) -> Result<Seq<Sequent>, RuleFault>
-    ensures { Gives RuleFault.NoMemory sequent_trees result (logic_premises (site_tree at.now) step.now) }
+    ensures { Gives RuleFault.NoMemory sequent_trees result
+        (logic_premises (site_tree at.now) step.now) }
 {
     let s = at.sequent;
     match step {

@@ -18,14 +18,16 @@ use std::alloc::Global;
 
 /// The sequent that asks for an equal formula.
 pub fn asking_copy(alloc: Global, s: &Sequent, formula: &Term) -> Result<Sequent, NoMemory>
-    ensures { IfOk result (λ p. sequent_tree p ≡ premise.asking (sequent_tree s.now) (term_tree formula.now)) }
+    ensures { IfOk result (λ p. sequent_tree p
+        ≡ premise.asking (sequent_tree s.now) (term_tree formula.now)) }
 {
     asking(alloc, s, copy(alloc, formula)?)
 }
 
 /// The sequent with an equal formula as one more hypothesis.
 pub fn assuming_copy(alloc: Global, s: &Sequent, formula: &Term) -> Result<Sequent, NoMemory>
-    ensures { IfOk result (λ p. sequent_tree p ≡ premise.assuming (sequent_tree s.now) (term_tree formula.now)) }
+    ensures { IfOk result (λ p. sequent_tree p
+        ≡ premise.assuming (sequent_tree s.now) (term_tree formula.now)) }
 {
     let formula = copy(alloc, formula)?;
     assuming(copy_sequent(alloc, s)?, formula)
@@ -46,7 +48,8 @@ pub fn closing(alloc: Global, applies: bool) -> Result<Seq<Sequent>, RuleFault>
 /// The goal is the hypothesis.
 pub fn hyp(alloc: Global, s: &Sequent, h: u32) -> Result<Seq<Sequent>, RuleFault>
     ensures { Gives RuleFault.NoMemory sequent_trees result
-        (judged (spec.hyp_row (view.goal_of (sequent_tree s.now)) (view.hyp_of (sequent_tree s.now) h))) }
+        (judged (spec.hyp_row (view.goal_of (sequent_tree s.now))
+        (view.hyp_of (sequent_tree s.now) h))) }
 {
     match goal_of(s) {
         Some(goal) => match hyp_of(s, h) {
@@ -216,7 +219,8 @@ pub fn note(alloc: Global, s: &Sequent, h: u32) -> Result<Seq<Sequent>, RuleFaul
 /// One hypothesis less.
 #[tactic(auto, using(sq_sequent::proofs::Without::map_rules))]
 pub fn drop_hyp(alloc: Global, s: &Sequent, h: u32) -> Result<Seq<Sequent>, RuleFault>
-    ensures { Gives RuleFault.NoMemory sequent_trees result (judged (spec.drop_row (sequent_tree s.now) h)) }
+    ensures { Gives RuleFault.NoMemory sequent_trees result
+        (judged (spec.drop_row (sequent_tree s.now) h)) }
 {
     let hyps = hyps_of(s);
     let at = h as usize;

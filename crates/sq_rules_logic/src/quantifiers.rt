@@ -8,7 +8,7 @@ ghost use Rattle.sq_system.specs.Sequents.{sequent_tree};
 ghost use Rattle.sq_sequent.specs.Logic as spec;
 ghost use Rattle.sq_sequent.specs.Logic.{sequent_trees, judged};
 ghost use Rattle.sq_sequent.specs.Premises as premise;
-ghost use Rattle.sq_sequent.specs.Site.{site_tree};
+ghost use Rattle.sq_sequent.specs.Sites.{site_tree};
 ghost use Rattle.sq_sequent.specs.Views as view;
 
 use sq_base::{Seq, Sort};
@@ -28,7 +28,8 @@ fn asking_new(
 ) -> Result<Seq<Sequent>, RuleFault>
     ensures { let here = sequent_tree s.now in let new = premise.new_variable sort here in
         Gives RuleFault.NoMemory sequent_trees result
-        (judged (Some (premise.with_variable sort (premise.asking here (opened new (term_tree body.now))) ∷ []))) }
+        (judged (Some (premise.with_variable sort
+        (premise.asking here (opened new (term_tree body.now))) ∷ []))) }
 {
     let body = open_new(alloc, s, sort, body)?;
     let asked = asking(alloc, s, body)?;
@@ -55,7 +56,8 @@ fn assuming_new(
 ) -> Result<Seq<Sequent>, RuleFault>
     ensures { let here = sequent_tree s.now in let new = premise.new_variable sort here in
         Gives RuleFault.NoMemory sequent_trees result
-        (judged (Some (premise.with_variable sort (premise.assuming here (opened new (term_tree body.now))) ∷ []))) }
+        (judged (Some (premise.with_variable sort
+        (premise.assuming here (opened new (term_tree body.now))) ∷ []))) }
 {
     let body = open_new(alloc, s, sort, body)?;
     let assumed = assuming(copy_sequent(alloc, s)?, body)?;
@@ -76,7 +78,8 @@ pub fn exe(alloc: Global, s: &Sequent, h: u32) -> Result<Seq<Sequent>, RuleFault
 #[tactic(auto, using(sq_sequent::proofs::Held::held_rules))]
 fn asking_at(alloc: Global, at: &Site, body: &Term, value: &Arg) -> Result<Seq<Sequent>, RuleFault>
     ensures { Gives RuleFault.NoMemory sequent_trees result
-        (judged (spec.asked_at (site_tree at.now) (term_tree body.now) (Some (arg_tree value.now)))) }
+        (judged (spec.asked_at (site_tree at.now) (term_tree body.now)
+        (Some (arg_tree value.now)))) }
 {
     let body = open_at(alloc, value, body)?;
     one_premise(alloc, asking(alloc, at.sequent, body)?)
@@ -85,7 +88,8 @@ fn asking_at(alloc: Global, at: &Site, body: &Term, value: &Arg) -> Result<Seq<S
 /// Of an existential formula: its body, at a value.
 pub fn exi(alloc: Global, at: &Site, witness: &ValArg) -> Result<Seq<Sequent>, RuleFault>
     ensures { Gives RuleFault.NoMemory sequent_trees result
-        (judged (spec.exi_row (site_tree at.now) witness.now (view.goal_of (site_tree at.now).sequent))) }
+        (judged (spec.exi_row (site_tree at.now) witness.now
+        (view.goal_of (site_tree at.now).sequent))) }
 {
     match shape_of(goal_of(at.sequent)) {
         Shape::Exists(sort, body) => match at.value_in(alloc, sort, witness)? {
@@ -104,7 +108,8 @@ fn assuming_at(
     value: &Arg,
 ) -> Result<Seq<Sequent>, RuleFault>
     ensures { Gives RuleFault.NoMemory sequent_trees result
-        (judged (spec.assumed_at (site_tree at.now) (term_tree body.now) (Some (arg_tree value.now)))) }
+        (judged (spec.assumed_at (site_tree at.now) (term_tree body.now)
+        (Some (arg_tree value.now)))) }
 {
     let body = open_at(alloc, value, body)?;
     one_premise(alloc, assuming(copy_sequent(alloc, at.sequent)?, body)?)
@@ -113,7 +118,8 @@ fn assuming_at(
 /// The body of a universal hypothesis, at a value, becomes a hypothesis.
 pub fn alle(alloc: Global, at: &Site, h: u32, witness: &ValArg) -> Result<Seq<Sequent>, RuleFault>
     ensures { Gives RuleFault.NoMemory sequent_trees result
-        (judged (spec.alle_row (site_tree at.now) witness.now (view.hyp_of (site_tree at.now).sequent h))) }
+        (judged (spec.alle_row (site_tree at.now) witness.now
+        (view.hyp_of (site_tree at.now).sequent h))) }
 {
     match shape_of(hyp_of(at.sequent, h)) {
         Shape::Forall(sort, body) => match at.value_in(alloc, sort, witness)? {

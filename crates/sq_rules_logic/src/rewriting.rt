@@ -4,8 +4,9 @@ ghost use Rattle.sq_base.specs.Gives.{Gives};
 ghost use Rattle.sq_term.specs.View.{term_tree};
 ghost use Rattle.sq_system.specs.Sequents.{item_of, sequent_tree, equiv};
 ghost use Rattle.sq_sequent.specs.Logic.{sequent_trees, judged, within_limits};
-ghost use Rattle.sq_sequent.specs.Rewriting as spec;
-ghost use Rattle.sq_sequent.specs.Rewriting.{rewriting_tree};
+ghost use Rattle.sq_sequent.specs.RewriteRow as spec;
+ghost use Rattle.sq_sequent.specs.Rewriting.{item_rewritten};
+ghost use Rattle.sq_sequent.specs.RewriteRow.{rewriting_tree};
 ghost use Rattle.sq_sequent.specs.Views as view;
 
 use sq_base::{Seq, Sort};
@@ -19,7 +20,8 @@ use std::alloc::Global;
 #[tactic(auto, using(sq_sequent::proofs::Held::held_rules))]
 fn in_goal(alloc: Global, s: &Sequent, by: &Rewriting) -> Result<Seq<Sequent>, RuleFault>
     ensures { Gives RuleFault.NoMemory sequent_trees result
-        (judged (spec.goal_rewritten (sequent_tree s.now) (rewriting_tree by.now) (view.goal_of (sequent_tree s.now)))) }
+        (judged (spec.goal_rewritten (sequent_tree s.now) (rewriting_tree by.now)
+        (view.goal_of (sequent_tree s.now)))) }
 {
     match goal_of(s) {
         Some(goal) => {
@@ -33,7 +35,8 @@ fn in_goal(alloc: Global, s: &Sequent, by: &Rewriting) -> Result<Seq<Sequent>, R
 #[tactic(auto, using(sq_sequent::proofs::RewriteLimits::hyp_rules))]
 fn in_hyp(alloc: Global, s: &Sequent, k: u32, by: &Rewriting) -> Result<Seq<Sequent>, RuleFault>
     ensures { Gives RuleFault.NoMemory sequent_trees result
-        (judged (spec.hyp_rewritten (sequent_tree s.now) k (rewriting_tree by.now) (view.hyp_of (sequent_tree s.now) k))) }
+        (judged (spec.hyp_rewritten (sequent_tree s.now) k (rewriting_tree by.now)
+        (view.hyp_of (sequent_tree s.now) k))) }
 {
     match hyp_of(s, k) {
         Some(hyp) => {
@@ -52,9 +55,11 @@ fn with_rewritten_items(
     items: &[Both],
     by: &Rewriting,
 ) -> Result<Seq<Sequent>, RuleFault>
-    ensures { let rewritten = map (spec.item_rewritten (rewriting_tree by.now)) (map item_of items.now) in
+    ensures { let rewritten = map (item_rewritten (rewriting_tree by.now))
+        (map item_of items.now) in
         Gives RuleFault.NoMemory sequent_trees result
-        (within_limits (equiv vars.now (map term_tree hyps.now) (map (map item_of) known.now) rewritten ∷ [])) }
+        (within_limits (equiv vars.now (map term_tree hyps.now)
+        (map (map item_of) known.now) rewritten ∷ [])) }
 {
     match rewrite_items(alloc, by, items) {
         Ok(items) => one_premise(alloc, with_items(alloc, vars, hyps, known, items)?),

@@ -9,7 +9,8 @@ ghost use Rattle.sq_system.specs.Sizes.{fits};
 ghost use Rattle.sq_sequent.specs.Logic as spec;
 ghost use Rattle.sq_sequent.specs.Logic.{sequent_trees, judged, within_limits};
 ghost use Rattle.sq_sequent.specs.Sides as sides;
-ghost use Rattle.sq_sequent.specs.Sides.{side_fits, sides_fit, IsPastLimits};
+ghost use Rattle.sq_formula.specs.Refusals.{IsPastLimits};
+ghost use Rattle.sq_rules_logic.specs.SideLimits.{side_fits, sides_fit};
 
 use sq_base::{Seq, Sort};
 use sq_sequent::{MOST_NODES, RuleFault, Sequent, two_premises};
@@ -48,7 +49,8 @@ fn on_side(
     hyps: &[Term],
     goal: &Term,
 ) -> Result<Sequent, RuleFault>
-    ensures { let there = sides.on_side side (local of.Both vars.now (map term_tree hyps.now) (term_tree goal.now)) in
+    ensures { let there = sides.on_side side
+        (local of.Both vars.now (map term_tree hyps.now) (term_tree goal.now)) in
         MatchResult result (λ p. sequent_tree p ≡ there) (λ e. IsPastLimits e (fits there)) }
 {
     let vars = Seq::from_slice(alloc, vars.as_slice())?;
@@ -87,7 +89,8 @@ fn each_side(
 
 /// Of a sequent of both sides: what it says on each.
 pub fn proj(alloc: Global, s: &Sequent) -> Result<Seq<Sequent>, RuleFault>
-    ensures { Gives RuleFault.NoMemory sequent_trees result (judged (spec.proj_row (sequent_tree s.now))) }
+    ensures { Gives RuleFault.NoMemory sequent_trees result
+        (judged (spec.proj_row (sequent_tree s.now))) }
 {
     match s {
         Sequent::Local {

@@ -4,7 +4,7 @@ ghost use Rattle.sq_base.specs.Gives.{Gives};
 ghost use Rattle.sq_term.specs.View.{term_tree};
 ghost use Rattle.sq_system.specs.Sequents.{sequent_tree};
 ghost use Rattle.sq_sequent.specs.Logic.{sequent_trees, judged};
-ghost use Rattle.sq_sequent.specs.Site.{site_tree};
+ghost use Rattle.sq_sequent.specs.Sites.{site_tree};
 ghost use Rattle.sq_sequent.specs.Uses as spec;
 
 use sq_base::Seq;
@@ -24,7 +24,8 @@ fn assuming_instance(
     messages: &[Term],
 ) -> Result<Seq<Sequent>, RuleFault>
     ensures { Gives RuleFault.NoMemory sequent_trees result
-        (judged (spec.used_with (sequent_tree s.now) side (Some (term_tree formula.now)) (Some (map term_tree messages.now)))) }
+        (judged (spec.used_with (sequent_tree s.now) side (Some (term_tree formula.now))
+        (Some (map term_tree messages.now)))) }
 {
     let said = instance_on(alloc, side, formula, messages)?;
     one_premise(alloc, assuming(copy_sequent(alloc, s)?, said)?)
@@ -39,7 +40,8 @@ fn use_on_side(
 ) -> Result<Seq<Sequent>, RuleFault>
     ensures { let here = site_tree at.now in
         Gives RuleFault.NoMemory sequent_trees result
-        (judged (spec.used_with here.sequent side (spec.offered here k (length args.now)) (spec.messages_in here args.now))) }
+        (judged (spec.used_with here.sequent side (spec.offered here k (length args.now))
+        (spec.messages_in here args.now))) }
 {
     match offered(at, k, args.len()) {
         Some(formula) => match messages_in(alloc, at, args)? {

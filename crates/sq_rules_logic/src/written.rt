@@ -10,7 +10,7 @@ ghost use Rattle.sq_sequent.specs.Logic as spec;
 ghost use Rattle.sq_sequent.specs.Logic.{sequent_trees, judged};
 ghost use Rattle.sq_sequent.specs.Places.{term_at};
 ghost use Rattle.sq_sequent.specs.Premises as premise;
-ghost use Rattle.sq_sequent.specs.Site.{site_tree};
+ghost use Rattle.sq_sequent.specs.Sites.{site_tree};
 ghost use Rattle.sq_sequent.specs.Standing as standing;
 
 use crate::propositional::{asking_copy, assuming_copy};
@@ -75,7 +75,8 @@ pub fn em(alloc: Global, at: &Site, formula: &TermArg) -> Result<Seq<Sequent>, R
 fn with_fact(alloc: Global, at: &Site, t: &TermArg) -> Result<Seq<Sequent>, RuleFault>
     ensures { let here = site_tree at.now in
         Gives RuleFault.NoMemory sequent_trees result
-        (judged (facts.assumed_fact here.sequent (facts.standing_fact here (term_at here.sequent t.now)))) }
+        (judged (facts.assumed_fact here.sequent
+        (facts.standing_fact here (term_at here.sequent t.now)))) }
 {
     match fact_in(alloc, at, t) {
         Ok(Some(fact)) => one_premise(alloc, assuming(copy_sequent(alloc, at.sequent)?, fact)?),

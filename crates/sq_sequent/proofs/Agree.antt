@@ -1,5 +1,6 @@
 -- The premises that are computed for a step are those of its row.
-use Rattle.std.proofs.Common.{◌≡◌, ◌≢◌, ◌==◌, ℕ, refl, sym, ap, subst, ◌∙◌, List, [], ◌∷◌, Option, Some, None, Bool, true, false, cond, ◌&&◌, map, length}
+use Rattle.std.proofs.Common.{◌≡◌, ◌≢◌, ◌==◌, ℕ, refl, sym, ap, subst, ◌∙◌, List, [], ◌∷◌, Option}
+use Rattle.std.proofs.Common.{Some, None, Bool, true, false, ◌&&◌, map, length}
 use Rattle.std.specs.Prelude.{nat_lt, slice_get, slice_set, if◌then◌else◌, option_map}
 use Rattle.std.specs.Cmp.Lexicographic.{pointwise, pointwise_decides}
 use Rattle.std.proofs.lemmas.Bool.Decides.{Decides-eqb, Decides-ltb}
@@ -9,7 +10,8 @@ use Rattle.sq_term.specs.Arguments.{ArgTree}
 use Rattle.sq_term.specs.declared.term.Idx.{Idx}
 use Rattle.sq_term.specs.declared.term.Side.{Side}
 use Rattle.sq_term.specs.declared.term.Side.TheVariants as side
-use Rattle.sq_term.specs.Formulas.{truth, falsity, negation, both, either, implies, equal, equivalent}
+use Rattle.sq_term.specs.Formulas.{truth, falsity, negation, both, either, implies, equal}
+use Rattle.sq_term.specs.Formulas.{equivalent}
 use Rattle.sq_term.specs.Measure.{count_terms}
 use Rattle.sq_term.specs.Symbols.{Kind, same_kind}
 use Rattle.sq_term.specs.Syntax.{TsTree, TermTree, fun, ts_eq, idx_eq, all, some, TermTrees}
@@ -19,30 +21,50 @@ use Rattle.sq_term.proofs.BoolTests.{and_split, and_both}
 use Rattle.sq_term.proofs.KindNumbers.{same_kind-decides}
 use Rattle.sq_term.proofs.SameTrees.{is_same_tree-decides}
 use Rattle.sq_subst.specs.Substitution.{opened}
-use Rattle.sq_system.specs.Sequents.{Body, trace_body, local_body, equiv_body, SequentTree, trace, local, equiv, vars_of, hyps_of, body_of}
+use Rattle.sq_system.specs.Sequents.{Body, trace_body, local_body, equiv_body, SequentTree, trace}
+use Rattle.sq_system.specs.Sequents.{local, equiv, vars_of, hyps_of, body_of}
 use Rattle.sq_system.specs.Statements.{StmtTree}
-use Rattle.sq_system.specs.Usable.{usable}
-use Rattle.sq_sequent.specs.declared.step.Dir.{Dir}
-use Rattle.sq_sequent.specs.declared.step.Step.{Step}
-use Rattle.sq_sequent.specs.declared.step.Step.TheVariants as step
-use Rattle.sq_sequent.specs.declared.step.Target.{Target}
-use Rattle.sq_sequent.specs.declared.step.Target.TheVariants as target
-use Rattle.sq_sequent.specs.declared.step.TermArg.{TermArg}
-use Rattle.sq_sequent.specs.declared.step.ValArg.{ValArg}
-use Rattle.sq_sequent.specs.Facts.{standing_fact, assumed_fact, fact_on, fact_of, fact_sort}
+use Rattle.sq_system.specs.Usable.{usable, states_a_formula}
+use Rattle.sq_step.specs.declared.step.Dir.{Dir}
+use Rattle.sq_step.specs.declared.step.Step.{Step}
+use Rattle.sq_step.specs.declared.step.Step.TheVariants as step
+use Rattle.sq_step.specs.declared.step.Target.{Target}
+use Rattle.sq_step.specs.declared.step.Target.TheVariants as target
+use Rattle.sq_step.specs.declared.step.TermArg.{TermArg}
+use Rattle.sq_step.specs.declared.step.ValArg.{ValArg}
+use Rattle.sq_formula.specs.FactSearch.{fact_of, fact_sort}
+use Rattle.sq_sequent.specs.Facts.{standing_fact, assumed_fact, fact_on}
 use Rattle.sq_sequent.specs.Laws.{RowsAgree}
-use Rattle.sq_sequent.specs.Logic.{closing_row, hyp_row, true_row, absurd_row, impi_row, noti_row, alli_row, andi_row, orl_row, orr_row, exi_row, asked_at, ande_row, ore_row, impe_row, note_row, alle_row, assumed_at, exe_row, cut_row, em_row, drop_row, proj_row, trace_row, is_reflexive, refl_row, sym_row, trans_row, arguments_asked, applications_row, arg_row, logic_row}
+use Rattle.sq_sequent.specs.Logic.{closing_row, hyp_row, true_row, absurd_row, impi_row, noti_row}
+use Rattle.sq_sequent.specs.Logic.{alli_row, andi_row, orl_row, orr_row, exi_row, asked_at}
+use Rattle.sq_sequent.specs.Logic.{ande_row, ore_row, impe_row, note_row, alle_row, assumed_at}
+use Rattle.sq_sequent.specs.Logic.{exe_row, cut_row, em_row, drop_row, proj_row, trace_row}
+use Rattle.sq_sequent.specs.Logic.{is_reflexive, refl_row, sym_row, trans_row}
+use Rattle.sq_sequent.specs.Premises.{arguments_asked}
+use Rattle.sq_sequent.specs.Logic.{applications_row, arg_row, logic_row}
 use Rattle.sq_sequent.specs.Places.{term_at}
-use Rattle.sq_sequent.specs.Premises.{asking, assuming, with_hyps, with_variable, new_variable, without, pure_ones, pure_or_false}
-use Rattle.sq_sequent.specs.Rewriting.{Rewriting, term_by, time_by, index_by, by_equation, by_equivalence, equivalence_in, first_rewriting, read_in, turned, rewriting_of, rewritten, item_rewritten, goal_rewritten, hyp_rewritten, items_rewritten, rewriting_at, rew_row}
+use Rattle.sq_sequent.specs.Premises.{asking, assuming, with_hyps, with_variable, new_variable}
+use Rattle.sq_sequent.specs.Premises.{without, pure_ones, pure_or_false}
+use Rattle.sq_sequent.specs.Rewriting.{Rewriting, term_by, time_by, index_by}
+use Rattle.sq_sequent.specs.RewriteRow.{by_equation}
+use Rattle.sq_sequent.specs.RewriteRow.{by_equivalence, equivalence_in, first_rewriting, read_in}
+use Rattle.sq_sequent.specs.Rewriting.{turned, rewritten, item_rewritten}
+use Rattle.sq_sequent.specs.RewriteRow.{rewriting_of}
+use Rattle.sq_sequent.specs.RewriteRow.{goal_rewritten, hyp_rewritten, items_rewritten}
+use Rattle.sq_sequent.specs.RewriteRow.{rewriting_at}
+use Rattle.sq_sequent.specs.RewriteRow.{rew_row}
 use Rattle.sq_sequent.specs.Rows as row
-use Rattle.sq_sequent.specs.Rows.{Row, Rewritten, Equates, HasFact, IsOn, IsLocal, Offers, AreMessages, AsksItself, AsksOfTrace}
+use Rattle.sq_formula.specs.Facts.{HasFact}
+use Rattle.sq_sequent.specs.Rows.{Row, Rewritten, Equates, IsOn, IsLocal, Offers}
+use Rattle.sq_sequent.specs.Rows.{AreMessages, AsksItself, AsksOfTrace}
 use Rattle.sq_sequent.specs.Sides.{on_side}
 use Rattle.sq_sequent.specs.Site.{Site}
 use Rattle.sq_sequent.specs.Standing.{where_standing, term_in, value_in, may_stand}
-use Rattle.sq_sequent.specs.Uses.{states_a_formula, offered_by, offered, with_first, messages_in, instance_on, used_with, use_on, use_row}
+use Rattle.sq_sequent.specs.Uses.{offered_by, offered, with_first, messages_in}
+use Rattle.sq_sequent.specs.Uses.{used_with, use_on, use_row}
+use Rattle.sq_sequent.specs.Sides.{instance_on}
 use Rattle.sq_sequent.specs.Views.{goal_of, local_goal_of, hyp_of}
-use Rattle.sq_sequent.proofs.FactShapes.{fact-is, fact-shape}
+use Rattle.sq_formula.proofs.FactShapes.{fact-is, fact-shape}
 
 -- ---- from the computed premises to the row
 
@@ -67,7 +89,8 @@ module _ (at : Site) where
       → alli_row at.sequent o ≡ Some ps → Row at step.Alli ps
   unfolding alli_row
   alli-back (Some (all x F)) ps q e =
-      let z : ps ≡ with_variable x (asking at.sequent (opened (new_variable x at.sequent) F)) ∷ [] = cc in
+      let z : ps ≡ with_variable x (asking at.sequent (opened (new_variable x at.sequent) F)) ∷ [] =
+      cc in
       subst (Row at step.Alli) (sym z) (row.alli x F q)
   alli-back _ ps q e = absurd (cc)
 
@@ -131,7 +154,9 @@ module _ (at : Site) where
       → exe_row at.sequent o ≡ Some ps → Row at (step.Exe h) ps
   unfolding exe_row
   exe-back h (Some (some x F)) ps q e =
-      let z : ps ≡ with_variable x (assuming at.sequent (opened (new_variable x at.sequent) F)) ∷ [] = cc in
+      let z : ps
+      ≡ with_variable x (assuming at.sequent (opened (new_variable x at.sequent) F)) ∷ [] =
+      cc in
       subst (Row at (step.Exe h)) (sym z) (row.exe h x F q)
   exe-back h _ ps q e = absurd (cc)
 
@@ -169,7 +194,8 @@ module _ (at : Site) where
   unfolding exi_row
   exi-back w (Some (some x F)) ps q e = go (value_in at x w) refl e
     where
-      go : (v : Option ArgTree) → value_in at x w ≡ v → asked_at at F v ≡ Some ps → Row at (step.Exi w) ps
+      go : (v : Option ArgTree) → value_in at x w ≡ v → asked_at at F v ≡ Some ps
+          → Row at (step.Exi w) ps
       go None i k = absurd (cc)
       go (Some v) i k =
           let z : ps ≡ asking at.sequent (opened v F) ∷ [] = cc in
@@ -203,11 +229,13 @@ module _ (at : Site) where
       let z : ps ≡ assuming at.sequent F ∷ assuming at.sequent (negation F) ∷ [] = cc in
       subst (Row at (step.Em a)) (sym z) (row.em a F q)
 
-  drop-back : (h : ℕ) (ps : List SequentTree) → drop_row at.sequent h ≡ Some ps → Row at (step.Drop h) ps
+  drop-back : (h : ℕ) (ps : List SequentTree) → drop_row at.sequent h ≡ Some ps
+      → Row at (step.Drop h) ps
   drop-back h ps e = go (nat_lt h (length (hyps_of at.sequent))) refl e
     where
       go : (b : Bool) → nat_lt h (length (hyps_of at.sequent)) ≡ b
-          → (if b then Some (with_hyps (without (hyps_of at.sequent) h) at.sequent ∷ []) else None) ≡ Some ps
+          → (if b then Some (with_hyps (without (hyps_of at.sequent) h) at.sequent ∷ []) else None)
+          ≡ Some ps
           → Row at (step.Drop h) ps
       go true i k =
           let z : ps ≡ with_hyps (without (hyps_of at.sequent) h) at.sequent ∷ [] = cc in
@@ -223,7 +251,8 @@ module _ (at : Site) where
       subst (Row at step.Sym) (sym z) (row.sym u v q)
   sym-back _ ps q e = absurd (cc)
 
-  trans-back : (a : TermArg) (o p : Option TermTree) (ps : List SequentTree) → local_goal_of at.sequent ≡ o
+  trans-back : (a : TermArg) (o p : Option TermTree) (ps : List SequentTree)
+      → local_goal_of at.sequent ≡ o
       → term_in at Message a ≡ p → trans_row at.sequent o p ≡ Some ps → Row at (step.Trans a) ps
   unfolding trans_row
   trans-back a (Some (equal u v)) (Some w) ps q r e =
@@ -235,18 +264,24 @@ module _ (at : Site) where
       → applications_row at.sequent t u ≡ Some ps → Row at step.Arg ps
   unfolding applications_row
   arg-same (fun f is us) (fun g js vs) ps q e =
-      go (same_kind f g && (pointwise is_same_idx is js && (count_terms us == count_terms vs))) refl e
+      go (same_kind f g && (pointwise is_same_idx is js && (count_terms us == count_terms vs))) refl
+      e
     where
-      go : (b : Bool) → (same_kind f g && (pointwise is_same_idx is js && (count_terms us == count_terms vs))) ≡ b
-          → (if b then Some (arguments_asked at.sequent f 0 us vs) else None) ≡ Some ps → Row at step.Arg ps
+      go : (b : Bool)
+          → (same_kind f g && (pointwise is_same_idx is js && (count_terms us == count_terms vs)))
+          ≡ b
+          → (if b then Some (arguments_asked at.sequent f 0 us vs) else None) ≡ Some ps
+          → Row at step.Arg ps
       go true i k =
           let z : ps ≡ arguments_asked at.sequent f 0 us vs = cc in
           let p = and_split (same_kind f g) _ i in
           let r = and_split (pointwise is_same_idx is js) _ p.1 in
           let x : f ≡ g = (same_kind-decides f g).0 p.0 in
           let y : is ≡ js = (pointwise_decides is_same_idx-decides is js).0 r.0 in
-          let n : count_terms us ≡ count_terms vs = (Decides-eqb (count_terms us) (count_terms vs)).0 r.1 in
-          let w : fun g js vs ≡ fun f is vs = sym (ap (λ m. fun m is vs) x ∙ ap (λ ks. fun g ks vs) y) in
+          let n : count_terms us ≡ count_terms vs =
+          (Decides-eqb (count_terms us) (count_terms vs)).0 r.1 in
+          let w : fun g js vs ≡ fun f is vs =
+          sym (ap (λ m. fun m is vs) x ∙ ap (λ ks. fun g ks vs) y) in
           subst (Row at step.Arg) (sym z)
           (row.arg f is us vs n (q ∙ ap (λ t. Some (equal (fun f is us) t)) w))
       go false i k = absurd (cc)
@@ -263,8 +298,10 @@ module _ (at : Site) where
       → Row at step.Proj ps
   proj-back (local side.Both vars H c) ps q e =
       let t : SequentTree = local side.Both vars H c in
-      let z : ps ≡ on_side side.Left (local side.Both vars H c) ∷ on_side side.Right (local side.Both vars H c) ∷ [] = cc in
-      subst (Row at step.Proj) (sym (z ∙ ap (λ r. on_side side.Left r ∷ on_side side.Right r ∷ []) (sym q)))
+      let z : ps ≡ on_side side.Left (local side.Both vars H c) ∷ on_side side.Right
+      (local side.Both vars H c) ∷ [] = cc in
+      subst (Row at step.Proj)
+      (sym (z ∙ ap (λ r. on_side side.Left r ∷ on_side side.Right r ∷ []) (sym q)))
       (row.proj (subst (λ r. IsOn (body_of r) side.Both) (sym q) refl))
   proj-back _ ps q e = absurd (cc)
 
@@ -275,7 +312,8 @@ module _ (at : Site) where
       let z : ps ≡ trace vars (pure_ones H) (pure_or_false c) ∷ [] = cc in
       subst (Row at step.Trace)
       (sym (z ∙ ap (λ r. trace (vars_of r) (pure_ones (hyps_of r)) (pure_or_false c) ∷ []) (sym q)))
-      (row.of_trace (pure_or_false c) (subst (λ r. AsksOfTrace (body_of r) (pure_or_false c)) (sym q) refl))
+      (row.of_trace (pure_or_false c)
+      (subst (λ r. AsksOfTrace (body_of r) (pure_or_false c)) (sym q) refl))
   trace-back (equiv vars H known items) ps q e =
       let z : ps ≡ trace vars (pure_ones H) falsity ∷ [] = cc in
       subst (Row at step.Trace)
@@ -310,7 +348,8 @@ module _ (at : Site) where
   refl-back (trace vars H c) ps q e =
       closed (is_reflexive false c) ps (λ h. itself false c (ap goal_of q) (λ f. absurd (cc)) h) e
   refl-back (local side vars H c) ps q e =
-      closed (is_reflexive true c) ps (λ h. itself true c (ap goal_of q) (λ f. ap local_goal_of q) h) e
+      closed (is_reflexive true c) ps
+      (λ h. itself true c (ap goal_of q) (λ f. ap local_goal_of q) h) e
   refl-back (equiv vars H known items) ps q e = absurd (cc)
 
   -- a fact, and an earlier statement, of a local sequent
@@ -321,13 +360,15 @@ module _ (at : Site) where
   fact-body a side None ps l q e = absurd (cc)
   fact-body a side (Some t) ps l q e = go (may_stand at (fact_sort at.env.funs t) t) refl e
     where
-      made : (o : Option TermTree) → fact_of at.env.funs t ≡ o → may_stand at (fact_sort at.env.funs t) t ≡ true
+      made : (o : Option TermTree) → fact_of at.env.funs t ≡ o
+          → may_stand at (fact_sort at.env.funs t) t ≡ true
           → assumed_fact at.sequent o ≡ Some ps → Row at (step.Fact a) ps
       made None i m k = absurd (cc)
       made (Some F) i m k =
           let z : ps ≡ assuming at.sequent F ∷ [] = cc in
           let there : where_standing at (fact_sort at.env.funs t) (term_at at.sequent a) ≡ Some t =
-          ap (where_standing at (fact_sort at.env.funs t)) q ∙ ap (λ b. cond b (Some t) None) m in
+          ap (where_standing at (fact_sort at.env.funs t)) q ∙ ap
+          (λ b. if b then Some t else None) m in
           subst (Row at (step.Fact a)) (sym z)
           (row.fact a side (fact_sort at.env.funs t) t F l there (fact-shape at.env.funs t F i))
 
@@ -344,7 +385,8 @@ module _ (at : Site) where
       fact-body a side (term_at at.sequent a) ps (subst (λ r. IsOn r side) (sym q) refl) refl e
   fact-back a (equiv_body known items) ps q e = absurd (cc)
 
-  first-message : (w : TermArg) (ws : List TermArg) (ms : List TermTree) (o : Option TermTree) (p : Option (List TermTree))
+  first-message : (w : TermArg) (ws : List TermArg) (ms : List TermTree) (o : Option TermTree)
+      (p : Option (List TermTree))
       → term_in at Message w ≡ o → ((ts : List TermTree) → p ≡ Some ts → AreMessages at ws ts)
       → with_first o p ≡ Some ms → AreMessages at (w ∷ ws) ms
   first-message w ws ms None p i rest k = absurd (cc)
@@ -364,12 +406,16 @@ module _ (at : Site) where
   unfolding offered
   offers k n F e = go (slice_get at.env.stmts k) refl e
     where
-      go : (o : Option StmtTree) → slice_get at.env.stmts k ≡ o → offered_by at k n o ≡ Some F → Offers at k n F
+      go : (o : Option StmtTree) → slice_get at.env.stmts k ≡ o → offered_by at k n o ≡ Some F
+          → Offers at k n F
       go None i h = absurd (cc)
       go (Some st) i h =
-          within (usable at.env at.goal k && (states_a_formula st.kind && (n == length st.schemas))) refl h
+          within (usable at.env at.goal k && (states_a_formula st.kind && (n == length st.schemas)))
+          refl h
         where
-          within : (b : Bool) → (usable at.env at.goal k && (states_a_formula st.kind && (n == length st.schemas))) ≡ b
+          within : (b : Bool)
+              → (usable at.env at.goal k && (states_a_formula st.kind && (n == length st.schemas)))
+              ≡ b
               → (if b then goal_of st.start else None) ≡ Some F → Offers at k n F
           within true j g =
               let p = and_split (usable at.env at.goal k) _ j in
@@ -388,10 +434,12 @@ module _ (at : Site) where
       → use_on at b k ws ≡ Some ps → Row at (step.UseStmt k ws) ps
   use-back k ws (trace_body c) ps q e = absurd (cc)
   use-back k ws (equiv_body known items) ps q e = absurd (cc)
-  use-back k ws (local_body side c) ps q e = go (offered at k (length ws)) refl (messages_in at ws) refl e
+  use-back k ws (local_body side c) ps q e =
+      go (offered at k (length ws)) refl (messages_in at ws) refl e
     where
       go : (o : Option TermTree) → offered at k (length ws) ≡ o → (p : Option (List TermTree))
-          → messages_in at ws ≡ p → used_with at.sequent side o p ≡ Some ps → Row at (step.UseStmt k ws) ps
+          → messages_in at ws ≡ p → used_with at.sequent side o p ≡ Some ps
+          → Row at (step.UseStmt k ws) ps
       go None i p j h = absurd (cc)
       go (Some F) i None j h = absurd (cc)
       go (Some F) i (Some ms) j h =
@@ -403,9 +451,12 @@ module _ (at : Site) where
   -- rewriting
   equation-back : (f : TermTree) (r : Rewriting) → by_equation f ≡ Some r → Equates at f r
   unfolding by_equation
-  equation-back (equal a b) r e = let z : r ≡ term_by a b = cc in subst (Equates at (equal a b)) (sym z) (row.messages a b)
-  equation-back (ts_eq a b) r e = let z : r ≡ time_by a b = cc in subst (Equates at (ts_eq a b)) (sym z) (row.times a b)
-  equation-back (idx_eq i j) r e = let z : r ≡ index_by i j = cc in subst (Equates at (idx_eq i j)) (sym z) (row.indices i j)
+  equation-back (equal a b) r e = let z : r ≡ term_by a b =
+      cc in subst (Equates at (equal a b)) (sym z) (row.messages a b)
+  equation-back (ts_eq a b) r e = let z : r ≡ time_by a b =
+      cc in subst (Equates at (ts_eq a b)) (sym z) (row.times a b)
+  equation-back (idx_eq i j) r e = let z : r ≡ index_by i j =
+      cc in subst (Equates at (idx_eq i j)) (sym z) (row.indices i j)
   equation-back _ r e = absurd (cc)
 
   equivalence-back : (side : Side) (f : TermTree) (r : Rewriting) → IsLocal at side
@@ -423,7 +474,8 @@ module _ (at : Site) where
           let y : b ≡ c = (is_same_tree-decides b c).0 h.1 in
           let z : r ≡ term_by a b = cc in
           let w : equivalent a b ≡ both (implies a b) (implies c d) =
-          ap (λ t. both (implies a b) (implies t a)) y ∙ ap (λ t. both (implies a b) (implies c t)) x in
+          ap (λ t. both (implies a b) (implies t a)) y
+          ∙ ap (λ t. both (implies a b) (implies c t)) x in
           subst (Equates at (both (implies a b) (implies c d))) (sym z)
           (subst (λ t. Equates at t (term_by a b)) w (row.formulas side a b l))
       go false i k = absurd (cc)
@@ -439,27 +491,32 @@ module _ (at : Site) where
   read-back f r None (local_body side c) q i e =
       equivalence-back side f r (subst (λ z. IsOn z side) (sym i) refl) e
 
-  target-back : (h : ℕ) (d : Dir) (p : Target) (f : TermTree) (r : Rewriting) (premise : SequentTree) (ps : List SequentTree)
+  target-back : (h : ℕ) (d : Dir) (p : Target) (f : TermTree) (r : Rewriting)
+      (premise : SequentTree) (ps : List SequentTree)
       → hyp_of at.sequent h ≡ Some f → Equates at f r → ps ≡ premise ∷ []
       → Rewritten at h (turned d r) p premise → Row at (step.Rew h d p) ps
   target-back h d p f r premise ps q t z w =
       subst (Row at (step.Rew h d p)) (sym z) (row.rew h d p f r premise q t w)
 
-  items-back : (h : ℕ) (d : Dir) (f : TermTree) (r : Rewriting) (s : SequentTree) (ps : List SequentTree)
+  items-back : (h : ℕ) (d : Dir) (f : TermTree) (r : Rewriting) (s : SequentTree)
+      (ps : List SequentTree)
       → hyp_of at.sequent h ≡ Some f → Equates at f r → at.sequent ≡ s
       → items_rewritten s (turned d r) ≡ Some ps → Row at (step.Rew h d target.Items) ps
   items-back h d f r (trace vars H c) ps q t i e = absurd (cc)
   items-back h d f r (local side vars H c) ps q t i e = absurd (cc)
   items-back h d f r (equiv vars H known items) ps q t i e =
-      target-back h d target.Items f r (equiv vars H known (map (item_rewritten (turned d r)) items)) ps q t (cc)
+      target-back h d target.Items f r
+      (equiv vars H known (map (item_rewritten (turned d r)) items)) ps q t (cc)
       (row.in_items vars H known items i)
 
-  rewriting-back : (h : ℕ) (d : Dir) (p : Target) (f : TermTree) (r : Rewriting) (ps : List SequentTree)
+  rewriting-back : (h : ℕ) (d : Dir) (p : Target) (f : TermTree) (r : Rewriting)
+      (ps : List SequentTree)
       → hyp_of at.sequent h ≡ Some f → Equates at f r
       → rewriting_at at.sequent h p (turned d r) ≡ Some ps → Row at (step.Rew h d p) ps
   rewriting-back h d target.Goal f r ps q t e = go (goal_of at.sequent) refl e
     where
-      go : (o : Option TermTree) → goal_of at.sequent ≡ o → goal_rewritten at.sequent (turned d r) o ≡ Some ps
+      go : (o : Option TermTree) → goal_of at.sequent ≡ o → goal_rewritten at.sequent (turned d r) o
+          ≡ Some ps
           → Row at (step.Rew h d target.Goal) ps
       go None i k = absurd (cc)
       go (Some c) i k =
@@ -469,15 +526,18 @@ module _ (at : Site) where
   rewriting-back h d (target.Hyp k) f r ps q t e = go (k == h) refl e
     where
       there : (o : Option TermTree) → hyp_of at.sequent k ≡ o → k ≢ h
-          → hyp_rewritten at.sequent k (turned d r) o ≡ Some ps → Row at (step.Rew h d (target.Hyp k)) ps
+          → hyp_rewritten at.sequent k (turned d r) o ≡ Some ps
+          → Row at (step.Rew h d (target.Hyp k)) ps
       there None i n j = absurd (cc)
       there (Some c) i n j =
           target-back h d (target.Hyp k) f r
-          (with_hyps (slice_set (hyps_of at.sequent) k (rewritten (turned d r) c)) at.sequent) ps q t (cc)
+          (with_hyps (slice_set (hyps_of at.sequent) k (rewritten (turned d r) c)) at.sequent) ps q
+          t (cc)
           (row.in_hypothesis k c n i)
 
       go : (b : Bool) → (k == h) ≡ b
-          → (if b then None else hyp_rewritten at.sequent k (turned d r) (hyp_of at.sequent k)) ≡ Some ps
+          → (if b then None else hyp_rewritten at.sequent k (turned d r) (hyp_of at.sequent k))
+          ≡ Some ps
           → Row at (step.Rew h d (target.Hyp k)) ps
       go true i j = absurd (cc)
       go false i j = there (hyp_of at.sequent k) refl (other k h i) j
@@ -496,7 +556,8 @@ module _ (at : Site) where
           → rew_row at.sequent h p (option_map (turned d) o) ≡ Some ps → Row at (step.Rew h d p) ps
       go None i k = absurd (cc)
       go (Some r) i k =
-          rewriting-back h d p f r ps q (read-back f r (by_equation f) (body_of at.sequent) refl refl i) k
+          rewriting-back h d p f r ps q
+          (read-back f r (by_equation f) (body_of at.sequent) refl refl i) k
 
   -- of any step
   pub row-back : (x : Step) (ps : List SequentTree) → logic_row at x ≡ Some ps → Row at x ps
@@ -525,7 +586,8 @@ module _ (at : Site) where
   row-back step.Trace ps e = trace-back at.sequent ps refl e
   row-back step.Refl ps e = refl-back at.sequent ps refl e
   row-back step.Sym ps e = sym-back (local_goal_of at.sequent) ps refl e
-  row-back (step.Trans a) ps e = trans-back a (local_goal_of at.sequent) (term_in at Message a) ps refl refl e
+  row-back (step.Trans a) ps e =
+      trans-back a (local_goal_of at.sequent) (term_in at Message a) ps refl refl e
   row-back step.Arg ps e = arg-back (local_goal_of at.sequent) ps refl e
   row-back (step.Rew h d p) ps e = rew-back h d p (hyp_of at.sequent h) ps refl e
   row-back (step.Fact a) ps e = fact-back a (body_of at.sequent) ps refl e
@@ -545,7 +607,8 @@ module _ (at : Site) where
       → trace_row s ≡ Some (trace (vars_of s) (pure_ones (hyps_of s)) c ∷ [])
   trace-there (trace vars H t) c a = absurd a
   trace-there (local side vars H t) c a = ap (λ d. Some (trace vars (pure_ones H) d ∷ [])) (sym a)
-  trace-there (equiv vars H known items) c a = ap (λ d. Some (trace vars (pure_ones H) d ∷ [])) (sym a)
+  trace-there (equiv vars H known items) c a =
+      ap (λ d. Some (trace vars (pure_ones H) d ∷ [])) (sym a)
 
   message-reflexive : (s : SequentTree) (u : TermTree) → local_goal_of s ≡ Some (equal u u)
       → refl_row s ≡ Some []
@@ -554,27 +617,34 @@ module _ (at : Site) where
   message-reflexive (equiv vars H known items) u e = absurd (cc)
   message-reflexive (local side vars H c) u e =
       let z : c ≡ equal u u = cc in
-      ap (λ t. closing_row (is_reflexive true t)) z ∙ ap closing_row ((is_same_tree-decides u u).1 refl)
+      ap (λ t. closing_row (is_reflexive true t)) z
+      ∙ ap closing_row ((is_same_tree-decides u u).1 refl)
 
-  time-reflexive : (s : SequentTree) (t : TsTree) → goal_of s ≡ Some (ts_eq t t) → refl_row s ≡ Some []
+  time-reflexive : (s : SequentTree) (t : TsTree) → goal_of s ≡ Some (ts_eq t t)
+      → refl_row s ≡ Some []
   unfolding goal_of is_reflexive
   time-reflexive (equiv vars H known items) t e = absurd (cc)
   time-reflexive (trace vars H c) t e =
       let z : c ≡ ts_eq t t = cc in
-      ap (λ u. closing_row (is_reflexive false u)) z ∙ ap closing_row ((is_same_ts_tree-decides t t).1 refl)
+      ap (λ u. closing_row (is_reflexive false u)) z
+      ∙ ap closing_row ((is_same_ts_tree-decides t t).1 refl)
   time-reflexive (local side vars H c) t e =
       let z : c ≡ ts_eq t t = cc in
-      ap (λ u. closing_row (is_reflexive true u)) z ∙ ap closing_row ((is_same_ts_tree-decides t t).1 refl)
+      ap (λ u. closing_row (is_reflexive true u)) z
+      ∙ ap closing_row ((is_same_ts_tree-decides t t).1 refl)
 
-  index-reflexive : (s : SequentTree) (i : Idx) → goal_of s ≡ Some (idx_eq i i) → refl_row s ≡ Some []
+  index-reflexive : (s : SequentTree) (i : Idx) → goal_of s ≡ Some (idx_eq i i)
+      → refl_row s ≡ Some []
   unfolding goal_of is_reflexive
   index-reflexive (equiv vars H known items) i e = absurd (cc)
   index-reflexive (trace vars H c) i e =
       let z : c ≡ idx_eq i i = cc in
-      ap (λ u. closing_row (is_reflexive false u)) z ∙ ap closing_row ((is_same_idx-decides i i).1 refl)
+      ap (λ u. closing_row (is_reflexive false u)) z
+      ∙ ap closing_row ((is_same_idx-decides i i).1 refl)
   index-reflexive (local side vars H c) i e =
       let z : c ≡ idx_eq i i = cc in
-      ap (λ u. closing_row (is_reflexive true u)) z ∙ ap closing_row ((is_same_idx-decides i i).1 refl)
+      ap (λ u. closing_row (is_reflexive true u)) z
+      ∙ ap closing_row ((is_same_idx-decides i i).1 refl)
 
   refl-there : AsksItself at → refl_row at.sequent ≡ Some []
   refl-there (row.of_message u e) = message-reflexive at.sequent u e
@@ -588,11 +658,13 @@ module _ (at : Site) where
   arg-there f is us vs n =
       ap (λ b. if b then Some (arguments_asked at.sequent f 0 us vs) else None)
       (and_both (same_kind f f) _ ((same_kind-decides f f).1 refl)
-      (and_both (pointwise is_same_idx is is) _ ((pointwise_decides is_same_idx-decides is is).1 refl)
+      (and_both (pointwise is_same_idx is is) _
+      ((pointwise_decides is_same_idx-decides is is).1 refl)
       ((Decides-eqb (count_terms us) (count_terms vs)).1 n)))
 
   fact-there : (b : Body) (a : TermArg) (side : Side) (x : Sort) (t F : TermTree) → IsOn b side
-      → term_in at x a ≡ Some t → HasFact at.env.funs x t F → fact_on at b a ≡ Some (assuming at.sequent F ∷ [])
+      → term_in at x a ≡ Some t → HasFact at.env.funs x t F
+      → fact_on at b a ≡ Some (assuming at.sequent F ∷ [])
   unfolding term_in
   fact-there (trace_body c) a side x t F l m h = absurd l
   fact-there (equiv_body known items) a side x t F l m h = absurd l
@@ -601,15 +673,18 @@ module _ (at : Site) where
       is : (fact_sort at.env.funs t ≡ x) × (fact_of at.env.funs t ≡ Some F)
       is = fact-is at.env.funs x t F h
 
-      standing : (u : TermTree) (b : Bool) → may_stand at x u ≡ b → cond b (Some u) None ≡ Some t
-          → assumed_fact at.sequent (if may_stand at (fact_sort at.env.funs u) u then fact_of at.env.funs u else None)
+      standing : (u : TermTree) (b : Bool) → may_stand at x u ≡ b
+          → (if b then Some u else None) ≡ Some t
+          → assumed_fact at.sequent
+          (if may_stand at (fact_sort at.env.funs u) u then fact_of at.env.funs u else None)
           ≡ Some (assuming at.sequent F ∷ [])
       standing u false q e = absurd (cc)
       standing u true q e =
           let z : u ≡ t = cc in
           let w : may_stand at (fact_sort at.env.funs t) t ≡ true =
           ap (λ s. may_stand at s t) is.0 ∙ subst (λ v. may_stand at x v ≡ true) z q in
-          ap (λ v. assumed_fact at.sequent (if may_stand at (fact_sort at.env.funs v) v then fact_of at.env.funs v else None)) z
+          ap (λ v. assumed_fact at.sequent
+          (if may_stand at (fact_sort at.env.funs v) v then fact_of at.env.funs v else None)) z
           ∙ (ap (λ b. assumed_fact at.sequent (if b then fact_of at.env.funs t else None)) w
           ∙ ap (assumed_fact at.sequent) is.1)
 
@@ -622,7 +697,8 @@ module _ (at : Site) where
       → messages_in at ws ≡ Some ms
   messages-there [] [] e = refl
   messages-there (w ∷ ws) (t ∷ ts) e =
-      ap (λ o. with_first o (messages_in at ws)) e.0 ∙ ap (with_first (Some t)) (messages-there ws ts e.1)
+      ap (λ o. with_first o (messages_in at ws)) e.0
+      ∙ ap (with_first (Some t)) (messages-there ws ts e.1)
   messages-there [] (t ∷ ts) e = absurd e
   messages-there (w ∷ ws) [] e = absurd e
 
@@ -633,10 +709,12 @@ module _ (at : Site) where
       ap (offered_by at k n) o.there_is
       ∙ (ap (λ b. if b then goal_of st.start else None)
       (and_both (usable at.env at.goal k) _ o.is_usable
-      (and_both (states_a_formula st.kind) _ o.states ((Decides-eqb n (length st.schemas)).1 o.count)))
+      (and_both (states_a_formula st.kind) _ o.states
+      ((Decides-eqb n (length st.schemas)).1 o.count)))
       ∙ o.says)
 
-  use-there : (b : Body) (k : ℕ) (ws : List TermArg) (side : Side) (F : TermTree) (ms : List TermTree)
+  use-there : (b : Body) (k : ℕ) (ws : List TermArg) (side : Side) (F : TermTree)
+      (ms : List TermTree)
       → IsOn b side → Offers at k (length ws) F → AreMessages at ws ms
       → use_on at b k ws ≡ Some (assuming at.sequent (instance_on side ms F) ∷ [])
   use-there (trace_body c) k ws side F ms l o m = absurd l
@@ -663,7 +741,8 @@ module _ (at : Site) where
   read-there _ _ (row.indices i j) = refl
   read-there _ _ (row.formulas side a b l) = equivalence-there (body_of at.sequent) side a b l
 
-  target-there : (h : ℕ) (r : Rewriting) (p : Target) (premise : SequentTree) → Rewritten at h r p premise
+  target-there : (h : ℕ) (r : Rewriting) (p : Target) (premise : SequentTree)
+      → Rewritten at h r p premise
       → rewriting_at at.sequent h p r ≡ Some (premise ∷ [])
   target-there h r _ _ (row.in_goal g e) = ap (goal_rewritten at.sequent r) e
   target-there h r _ _ (row.in_hypothesis k f n e) = go (k == h) refl
@@ -677,7 +756,8 @@ module _ (at : Site) where
 
   rew-there : (h : ℕ) (d : Dir) (p : Target) (f : TermTree) (r : Rewriting) (premise : SequentTree)
       → hyp_of at.sequent h ≡ Some f → Equates at f r → Rewritten at h (turned d r) p premise
-      → rew_row at.sequent h p (rewriting_of at.sequent d (hyp_of at.sequent h)) ≡ Some (premise ∷ [])
+      → rew_row at.sequent h p (rewriting_of at.sequent d (hyp_of at.sequent h))
+      ≡ Some (premise ∷ [])
   unfolding rewriting_of
   rew-there h d p f r premise e q w =
       ap (λ o. rew_row at.sequent h p (rewriting_of at.sequent d o)) e
@@ -685,7 +765,8 @@ module _ (at : Site) where
       ∙ target-there h (turned d r) p premise w)
 
   pub row-there : (x : Step) (ps : List SequentTree) → Row at x ps → logic_row at x ≡ Some ps
-  unfolding logic_row use_row true_row absurd_row impi_row noti_row alli_row andi_row orl_row orr_row exi_row ande_row ore_row impe_row note_row alle_row exe_row sym_row trans_row
+  unfolding logic_row use_row true_row absurd_row impi_row noti_row alli_row andi_row orl_row
+      orr_row exi_row ande_row ore_row impe_row note_row alle_row exe_row sym_row trans_row
   row-there _ _ (row.hyp h g e f) =
       ap (λ o. hyp_row o (hyp_of at.sequent h)) e
       ∙ (ap (hyp_row (Some g)) f ∙ ap closing_row ((is_same_tree-decides g g).1 refl))
@@ -707,7 +788,8 @@ module _ (at : Site) where
   row-there _ _ (row.cut arg F e) = ap (cut_row at.sequent) e
   row-there _ _ (row.em arg F e) = ap (em_row at.sequent) e
   row-there _ _ (row.drop h l) =
-      ap (λ b. if b then Some (with_hyps (without (hyps_of at.sequent) h) at.sequent ∷ []) else None)
+      ap (λ b. if b then Some
+      (with_hyps (without (hyps_of at.sequent) h) at.sequent ∷ []) else None)
       ((Decides-ltb h (length (hyps_of at.sequent))).1 l)
   row-there _ _ (row.use_statement k args side F ts l o m) =
       use-there (body_of at.sequent) k args side F ts l o m
@@ -720,7 +802,8 @@ module _ (at : Site) where
       ∙ ap (trans_row at.sequent (Some (equal u v))) t
   row-there _ _ (row.arg f is us vs n e) = ap (arg_row at.sequent) e ∙ arg-there f is us vs n
   row-there _ _ (row.rew h d p f r premise e q w) = rew-there h d p f r premise e q w
-  row-there _ _ (row.fact arg side x t F l m h) = fact-there (body_of at.sequent) arg side x t F l m h
+  row-there _ _ (row.fact arg side x t F l m h) =
+      fact-there (body_of at.sequent) arg side x t F l m h
 
 -- the premises that are computed are those of the row
 pub rows_agree : (at : Site) (x : Step) → RowsAgree at x

@@ -1,5 +1,8 @@
 -- Applications of one function, and their arguments one after the other.
-use Rattle.std.proofs.Common.{◌≡◌, ◌≢◌, ◌==◌, ◌&&◌, ℕ, suc, ◌+◌, ◌<◌, refl, sym, ap, ◌∙◌, List, [], ◌∷◌, ◌++◌, length, drop, get_or, Option, Some, None, Bool, true, false, cond, add-one}
+use Rattle.std.proofs.Common.{◌≡◌, ◌≢◌, ◌==◌, ◌&&◌, ℕ, suc, ◌+◌, ◌<◌, refl, sym, ap, ◌∙◌, List, []}
+use Rattle.std.proofs.Common.{◌∷◌, ◌++◌, length, drop, get_or, Option, Some, None, Bool, true}
+use Rattle.std.proofs.Common.{false, add-one}
+use Rattle.std.specs.Prelude.{if◌then◌else◌}
 use Rattle.std.proofs.Math.Seq.{drop-cons}
 use Rattle.std.specs.Cmp.Lexicographic.{pointwise, pointwise_decides}
 use Rattle.std.proofs.lemmas.Bool.Decides.{Decides-eqb}
@@ -16,32 +19,42 @@ use Rattle.sq_term.proofs.Views.{term_tree-Fun, open_rules}
 use Rattle.sq_system.specs.declared.sequent.Sequent.{Sequent}
 use Rattle.sq_system.specs.Sequents.{SequentTree, sequent_tree}
 use Rattle.sq_sequent.specs.Premises.{asking}
-use Rattle.sq_sequent.specs.Logic.{sequent_trees, asked_alike, arguments_asked, applications_row}
+use Rattle.sq_sequent.specs.Logic.{sequent_trees, applications_row}
+use Rattle.sq_sequent.specs.Premises.{asked_alike, arguments_asked}
 use Rattle.sq_term.proofs.Connectives.{count_terms-trees}
 use Rattle.sq_term.proofs.KindNumbers.{kind_of-same, same_kind-decides}
 
-trees-push : (xs : List Sequent) (x : Sequent) (ys : List SequentTree) → sequent_trees (xs ++ x ∷ []) ++ ys ≡ sequent_trees xs ++ (sequent_tree x ∷ ys)
+trees-push : (xs : List Sequent) (x : Sequent) (ys : List SequentTree)
+    → sequent_trees (xs ++ x ∷ []) ++ ys ≡ sequent_trees xs ++ (sequent_tree x ∷ ys)
 trees-push [] x ys = refl
 trees-push (z ∷ xs) x ys = ap (λ t. sequent_tree z ∷ t) (trees-push xs x ys)
 
 -- the rest, from item k on
-rest_is : (terms : List Term) (k : ℕ) (t : Term) → k < length terms → t ≡ get_or terms k t → drop k terms ≡ t ∷ drop (suc k) terms
+rest_is : (terms : List Term) (k : ℕ) (t : Term) → k < length terms → t ≡ get_or terms k t
+    → drop k terms ≡ t ∷ drop (suc k) terms
 rest_is terms k t h e = drop-cons terms k t h ∙ ap (λ x. x ∷ drop (suc k) terms) (sym e)
 
 -- one more premise
-pub argument-next : (s : SequentTree) (f : Kind) (k : ℕ) (us vs : List Term) (u v : Term) (out out' : List Sequent) (p : Sequent) (r : List SequentTree)
+pub argument-next : (s : SequentTree) (f : Kind) (k : ℕ) (us vs : List Term) (u v : Term)
+    (out out' : List Sequent) (p : Sequent) (r : List SequentTree)
     → k < length us → k < length vs → u ≡ get_or us k u → v ≡ get_or vs k v
-    → sequent_tree p ≡ asking s (asked_alike (takes_boolean f k) (term_tree u) (term_tree v)) → out' ≡ out ++ p ∷ []
-    → sequent_trees out ++ arguments_asked s f k (term_trees (drop k us)) (term_trees (drop k vs)) ≡ r
-    → sequent_trees out' ++ arguments_asked s f (k + 1) (term_trees (drop (k + 1) us)) (term_trees (drop (k + 1) vs)) ≡ r
+    → sequent_tree p ≡ asking s (asked_alike (takes_boolean f k) (term_tree u) (term_tree v))
+    → out' ≡ out ++ p ∷ []
+    → sequent_trees out ++ arguments_asked s f k (term_trees (drop k us)) (term_trees (drop k vs))
+    ≡ r
+    → sequent_trees out' ++ arguments_asked s f (k + 1) (term_trees (drop (k + 1) us))
+    (term_trees (drop (k + 1) vs)) ≡ r
 argument-next s f k us vs u v out out' p r h h' e e' q o inv =
-    let rest : List SequentTree = arguments_asked s f (suc k) (term_trees (drop (suc k) us)) (term_trees (drop (suc k) vs)) in
+    let rest : List SequentTree =
+    arguments_asked s f (suc k) (term_trees (drop (suc k) us)) (term_trees (drop (suc k) vs)) in
     rw add-one
     (ap (λ x. sequent_trees x ++ rest) o
     ∙ (trees-push out p rest
     ∙ (ap (λ x. sequent_trees out ++ (x ∷ rest)) q
-    ∙ (ap (λ x. sequent_trees out ++ arguments_asked s f k (term_trees x) (term_trees (v ∷ drop (suc k) vs))) (sym (rest_is us k u h e))
-    ∙ (ap (λ x. sequent_trees out ++ arguments_asked s f k (term_trees (drop k us)) (term_trees x)) (sym (rest_is vs k v h' e')) ∙ inv)))))
+    ∙ (ap (λ x. sequent_trees out ++ arguments_asked s f k (term_trees x)
+    (term_trees (v ∷ drop (suc k) vs))) (sym (rest_is us k u h e))
+    ∙ (ap (λ x. sequent_trees out ++ arguments_asked s f k (term_trees (drop k us)) (term_trees x))
+    (sym (rest_is vs k v h' e')) ∙ inv)))))
 
 pub ruleset argument_rules = (argument-next)
 
@@ -74,7 +87,7 @@ other_indices is js e = go (pointwise is_same_idx is js) refl
     go false h = refl
 
 abbrev row_where : Bool → List SequentTree → Option (List SequentTree)
-row_where b ps = cond b (Some ps) None
+row_where b ps = if b then Some ps else None
 
 no_second : (a b : Bool) → b ≡ false → (a && b) ≡ false
 no_second true b e = e
@@ -106,19 +119,24 @@ applications-same s f g is js us vs e i n =
     (same_number (count_terms (term_trees us)) (count_terms (term_trees vs))
     (count_terms-trees us ∙ (n ∙ sym (count_terms-trees vs))))))
 
-pub applications-function : (s : SequentTree) (f g : ℕ) (is js : List Idx) (us vs : List Term) → f ≢ g
+pub applications-function : (s : SequentTree) (f g : ℕ) (is js : List Idx) (us vs : List Term)
+    → f ≢ g
     → applications_row s (term_tree (tm.Fun f is us)) (term_tree (tm.Fun g js vs)) ≡ None
 applications-function s f g is js us vs e =
     applications s f g is js us vs false
-    (ap (λ b. b && (pointwise is_same_idx is js && (count_terms (term_trees us) == count_terms (term_trees vs))))
+    (ap (λ b. b
+    && (pointwise is_same_idx is js
+    && (count_terms (term_trees us) == count_terms (term_trees vs))))
     (other_function f g e))
 
-pub applications-indices : (s : SequentTree) (f g : ℕ) (is js : List Idx) (us vs : List Term) → is ≢ js
+pub applications-indices : (s : SequentTree) (f g : ℕ) (is js : List Idx) (us vs : List Term)
+    → is ≢ js
     → applications_row s (term_tree (tm.Fun f is us)) (term_tree (tm.Fun g js vs)) ≡ None
 applications-indices s f g is js us vs e =
     applications s f g is js us vs false
     (no_second (same_kind (kind_of f) (kind_of g)) _
-    (ap (λ b. b && (count_terms (term_trees us) == count_terms (term_trees vs))) (other_indices is js e)))
+    (ap (λ b. b && (count_terms (term_trees us) == count_terms (term_trees vs)))
+    (other_indices is js e)))
 
 pub applications-count : (s : SequentTree) (f g : ℕ) (is js : List Idx) (us vs : List Term)
     → length us ≢ length vs

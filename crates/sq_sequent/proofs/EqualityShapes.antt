@@ -7,10 +7,10 @@ use Rattle.sq_term.specs.Formulas.{equal}
 use Rattle.sq_term.specs.Syntax.{TsTree, TermTree, ts_eq, idx_eq}
 use Rattle.sq_term.specs.TreeEquality.{is_same_tree}
 use Rattle.sq_term.specs.TsEquality.{is_same_idx, is_same_ts_tree}
-use Rattle.sq_sequent.specs.declared.shapes.Shape.{Shape}
-use Rattle.sq_sequent.specs.declared.shapes.Shape.TheVariants as shape
+use Rattle.sq_formula.specs.declared.shapes.Shape.{Shape}
+use Rattle.sq_formula.specs.declared.shapes.Shape.TheVariants as shape
 use Rattle.sq_sequent.specs.Logic.{is_reflexive}
-use Rattle.sq_sequent.specs.Shapes.{Reads}
+use Rattle.sq_formula.specs.Shapes.{Reads}
 use Rattle.sq_sequent.proofs.RowShapes.{reflexive-else}
 
 abbrev reflexive_in : Bool → Option TermTree → Bool

@@ -1,4 +1,3 @@
-pub mod ShapeParts
 pub mod RowShapes
 pub mod EqualityShapes
 pub mod RewriteShapes
@@ -9,21 +8,12 @@ pub mod ArgumentLists
 pub mod ArgumentSorts
 pub mod Walks
 pub mod Scoping
-pub mod KeptSorts
-pub mod Opened
-pub mod ClosedSorts
 pub mod Reaches
 pub mod Values
 pub mod Terms
 pub mod Suited
-pub mod SideSorts
-pub mod FactShapes
-pub mod FactReads
-pub mod FactSorts
-pub mod FactParts
 pub mod Messages
 pub mod InstanceLimits
-pub mod Timeless
 pub mod Offers
 pub mod UseSorts
 pub mod RewriteSorts

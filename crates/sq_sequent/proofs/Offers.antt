@@ -1,5 +1,6 @@
 -- What the environment says of a formula that a statement offers, and of the messages of arguments.
-use Rattle.std.proofs.Common.{◌≡◌, ℕ, zero, suc, refl, sym, ap, ◌∙◌, subst, List, [], ◌∷◌, length, get_or, Option, Some, None, Bool, true, false}
+use Rattle.std.proofs.Common.{◌≡◌, ℕ, zero, suc, refl, sym, ap, ◌∙◌, subst, List, [], ◌∷◌, length}
+use Rattle.std.proofs.Common.{get_or, Option, Some, None, Bool, true, false}
 use Rattle.std.specs.Prelude.{◌==◌, slice_get}
 use Rattle.std.specs.List.{list_all}
 use Rattle.std.proofs.lemmas.Option.{get_or_from_slice_get}
@@ -11,15 +12,17 @@ use Rattle.sq_term.proofs.BoolTests.{and_split}
 use Rattle.sq_typing.specs.Typing.{Signature, has_sort}
 use Rattle.sq_system.specs.declared.env.StmtKind.{StmtKind}
 use Rattle.sq_system.specs.declared.env.StmtKind.TheVariants.{Axiom, Lemma, Equiv}
-use Rattle.sq_system.specs.Sequents.{SequentTree, sequent, trace_body, local_body, equiv_body, local, vars_of}
+use Rattle.sq_system.specs.Sequents.{SequentTree, sequent, trace_body, local_body, equiv_body}
+use Rattle.sq_system.specs.Sequents.{local, vars_of}
 use Rattle.sq_system.specs.Sizes.{fits}
 use Rattle.sq_system.specs.Statements.{StmtTree, EnvTree, no_actions}
-use Rattle.sq_system.specs.Usable.{no_statement, statement_at, system_of}
-use Rattle.sq_system.specs.WellFormed.{signature_of, is_sorted, is_sequent_of, starts_local, starts_as, is_statement, is_environment}
+use Rattle.sq_system.specs.Usable.{no_statement, statement_at, states_a_formula, system_of}
+use Rattle.sq_system.specs.Scopes.{signature_of}
+use Rattle.sq_system.specs.WellFormed.{is_sorted, is_sequent_of, starts_local}
+use Rattle.sq_system.specs.WellFormed.{starts_as, is_statement, is_environment}
 use Rattle.sq_system.proofs.EnvLaws.{environment_parts}
 use Rattle.sq_sequent.specs.Rows.{Offers}
 use Rattle.sq_sequent.specs.Site.{Site}
-use Rattle.sq_sequent.specs.Uses.{states_a_formula}
 use Rattle.sq_sequent.specs.Views.{goal_of}
 
 -- the signature of statement k, which starts without variables
@@ -39,7 +42,8 @@ no_start e = absurd (let f : false ≡ true = e in cc)
 starts-with : (s : SequentTree) (F : TermTree) → starts_local s ≡ true → goal_of s ≡ Some F
     → s ≡ local Both [] [] F
 unfolding goal_of
-starts-with (sequent [] [] (local_body Both g)) F h e = let z : g ≡ F = cc in ap (local Both [] []) z
+starts-with (sequent [] [] (local_body Both g)) F h e = let z : g ≡ F =
+    cc in ap (local Both [] []) z
 starts-with (sequent [] [] (local_body Left g)) F h e = no_start h
 starts-with (sequent [] [] (local_body Right g)) F h e = no_start h
 starts-with (sequent [] [] (trace_body g)) F h e = no_start h
@@ -55,7 +59,8 @@ local-start Equiv n s h e = no_start h
 
 -- the formula of a starting sequent is well-sorted in its system
 start-sorted : (env : EnvTree) (o : Option SystemTree) (system : SystemTree) (n : ℕ) (F : TermTree)
-    → ((x : SystemTree) → o ≡ Some x → system ≡ x) → is_sequent_of env o n (local Both [] [] F) ≡ true
+    → ((x : SystemTree) → o ≡ Some x → system ≡ x) → is_sequent_of env o n (local Both [] [] F)
+    ≡ true
     → has_sort (signature_of env system n []) [] Boolean F ≡ true
 start-sorted env None system n F same h = no_start h
 start-sorted env (Some x) system n F same h =
@@ -76,7 +81,8 @@ pub offered-stated : (at : Site) (k n : ℕ) (F : TermTree) → is_environment a
 offered-stated at k n F kept o =
     let env : EnvTree = at.env in
     let st : StmtTree = o.statement in
-    let there : statement_at env k ≡ st = get_or_from_slice_get env.stmts k st no_statement o.there_is in
+    let there : statement_at env k ≡ st =
+    get_or_from_slice_get env.stmts k st no_statement o.there_is in
     let well : is_statement env st ≡ true =
     all-at (is_statement env) env.stmts k st (environment_parts env kept).2 o.there_is in
     let parts = and_split
@@ -84,7 +90,8 @@ offered-stated at k n F kept o =
     let kind = and_split (length st.vars == length (vars_of st.start))
     (starts_as st.kind (length st.schemas) st.start) parts.1 in
     let start : st.start ≡ local Both [] [] F =
-    starts-with st.start F (local-start st.kind (length st.schemas) st.start o.states kind.1) o.says in
+    starts-with st.start F
+    (local-start st.kind (length st.schemas) st.start o.states kind.1) o.says in
     let there_sorted : has_sort
     (signature_of env (get_or env.systems st.system no_actions) (length st.schemas) [])
     [] Boolean F ≡ true =

@@ -1,5 +1,6 @@
 -- Each premise of a row is well-formed where its sequent is.
-use Rattle.std.proofs.Common.{◌≡◌, ℕ, refl, sym, ap, subst, ◌∙◌, List, [], ◌∷◌, ◌++◌, Some, None, Option, Bool, true, false, map, length, get_or}
+use Rattle.std.proofs.Common.{◌≡◌, ℕ, refl, sym, ap, subst, ◌∙◌, List, [], ◌∷◌, ◌++◌, Some, None}
+use Rattle.std.proofs.Common.{Option, Bool, true, false, map, length, get_or}
 use Rattle.std.specs.Prelude.{slice_get, slice_set, if◌then◌else◌}
 use Rattle.std.specs.List.{list_all}
 use Rattle.std.proofs.lemmas.Option.{get_or_from_slice_get}
@@ -20,37 +21,49 @@ use Rattle.sq_term.proofs.BoolTests.{and_split, and_both}
 use Rattle.sq_typing.specs.Functions.{are_functions}
 use Rattle.sq_typing.specs.Standing.{Subject, of_trace, of_side, may_stand}
 use Rattle.sq_typing.specs.Typing.{Signature, has_sort}
-use Rattle.sq_typing.proofs.Formulas.{sort-of, stands, only-stands, first-stands, second-stands, falsity-stands, negation-stands, equal-stands}
+use Rattle.sq_typing.proofs.Formulas.{sort-of, stands, only-stands, first-stands, second-stands}
+use Rattle.sq_typing.proofs.Formulas.{falsity-stands, negation-stands, equal-stands}
 use Rattle.sq_subst.specs.Projection.{projected}
 use Rattle.sq_subst.specs.Substitution.{opened}
-use Rattle.sq_system.specs.Sequents.{Item, Body, trace_body, local_body, equiv_body, SequentTree, sequent, trace, local, equiv, vars_of, hyps_of, body_of}
+use Rattle.sq_system.specs.Sequents.{Item, Body, trace_body, local_body, equiv_body, SequentTree}
+use Rattle.sq_system.specs.Sequents.{sequent, trace, local, equiv, vars_of, hyps_of, body_of}
 use Rattle.sq_system.specs.Sizes.{fits, all_fit}
 use Rattle.sq_system.specs.Statements.{StmtTree, no_actions}
 use Rattle.sq_system.specs.Usable.{no_statement, statement_at, system_of}
-use Rattle.sq_system.specs.WellFormed.{signature_of, subject_of, is_item, is_sorted_body, is_sorted, is_sequent_of, is_well_formed_for, is_environment}
+use Rattle.sq_system.specs.Scopes.{signature_of, subject_of}
+use Rattle.sq_system.specs.WellFormed.{is_item, is_sorted_body, is_sorted}
+use Rattle.sq_system.specs.WellFormed.{is_sequent_of, is_well_formed_for, is_environment}
 use Rattle.sq_system.proofs.EnvLaws.{environment_parts}
-use Rattle.sq_sequent.specs.declared.step.Step.{Step}
-use Rattle.sq_sequent.specs.declared.step.Target.{Target}
-use Rattle.sq_sequent.specs.declared.step.TermArg.{TermArg}
+use Rattle.sq_step.specs.declared.step.Step.{Step}
+use Rattle.sq_step.specs.declared.step.Target.{Target}
+use Rattle.sq_step.specs.declared.step.TermArg.{TermArg}
 use Rattle.sq_sequent.specs.Laws.{PreservedByRows}
-use Rattle.sq_sequent.specs.Logic.{arguments_asked}
-use Rattle.sq_sequent.specs.Premises.{asking, assuming, with_hyps, with_variable, new_variable, without, pure_ones, pure_or_false}
+use Rattle.sq_sequent.specs.Premises.{arguments_asked}
+use Rattle.sq_sequent.specs.Premises.{asking, assuming, with_hyps, with_variable, new_variable}
+use Rattle.sq_sequent.specs.Premises.{without, pure_ones, pure_or_false}
 use Rattle.sq_sequent.specs.Rewriting.{Rewriting, turned, rewritten, item_rewritten}
 use Rattle.sq_sequent.specs.Rows as row
-use Rattle.sq_sequent.specs.Rows.{Row, Rewritten, in_goal, in_hypothesis, in_items, IsOn, AsksOfTrace}
+use Rattle.sq_sequent.specs.Rows.{Row, Rewritten, in_goal, in_hypothesis, in_items, IsOn}
+use Rattle.sq_sequent.specs.Rows.{AsksOfTrace}
 use Rattle.sq_sequent.specs.Sides.{on_side}
 use Rattle.sq_sequent.specs.Site.{Site}
 use Rattle.sq_sequent.specs.Standing.{signature_at}
 use Rattle.sq_sequent.specs.Standing as standing
-use Rattle.sq_sequent.specs.Uses.{instance_on}
+use Rattle.sq_sequent.specs.Sides.{instance_on}
 use Rattle.sq_sequent.specs.Views.{goal_of, local_goal_of}
 use Rattle.sq_sequent.proofs.ArgumentSorts.{arguments-stand}
-use Rattle.sq_sequent.proofs.FactSorts.{fact-stands}
-use Rattle.sq_sequent.proofs.KeptSorts.{with_variables}
-use Rattle.sq_sequent.proofs.QuantifierSorts.{wider, sequent-widened, all-new, some-new, all-value, some-value, binders-all, binders-some, with_variable-sorted, with_variable-vars}
-use Rattle.sq_sequent.proofs.RewriteSorts.{IsTyped, typed, turned-typed, stands-rewritten, items-kept}
-use Rattle.sq_sequent.proofs.SideSorts.{side-stands, sides-stand}
-use Rattle.sq_sequent.proofs.Suited.{suited, hyp-suited, goal-suited, hyps-sorted, body-sorted, with_hyps-sorted, without-sorted, assuming-sorted, asking-sorted, asking-suits, assuming-suits, pure_ones-sorted, all-set, local_goal_is}
+use Rattle.sq_formula.proofs.FactSorts.{fact-stands}
+use Rattle.sq_formula.proofs.KeptSorts.{with_variables}
+use Rattle.sq_sequent.proofs.QuantifierSorts.{wider, sequent-widened, all-new, some-new, all-value}
+use Rattle.sq_sequent.proofs.QuantifierSorts.{some-value, binders-all, binders-some}
+use Rattle.sq_sequent.proofs.QuantifierSorts.{with_variable-sorted, with_variable-vars}
+use Rattle.sq_sequent.proofs.RewriteSorts.{IsTyped, typed, turned-typed, stands-rewritten}
+use Rattle.sq_sequent.proofs.RewriteSorts.{items-kept}
+use Rattle.sq_formula.proofs.SideSorts.{side-stands, sides-stand}
+use Rattle.sq_sequent.proofs.Suited.{suited, hyp-suited, goal-suited, hyps-sorted, body-sorted}
+use Rattle.sq_sequent.proofs.Suited.{with_hyps-sorted, without-sorted, assuming-sorted}
+use Rattle.sq_sequent.proofs.Suited.{asking-sorted, asking-suits, assuming-suits, pure_ones-sorted}
+use Rattle.sq_sequent.proofs.Suited.{all-set, local_goal_is}
 use Rattle.sq_sequent.proofs.Offers.{offered-stated}
 use Rattle.sq_sequent.proofs.Terms.{term-stands, messages-stand, messages-count}
 use Rattle.sq_sequent.proofs.UseSorts.{use_stands}
@@ -107,15 +120,18 @@ module _ (g : Signature) (ok : are_functions g.funs ≡ true) where
   proj-sorted (local own vars H c) side l h =
       let k : is_sorted g (local Both vars H c) ≡ true =
       subst (λ q. is_sorted g (local q vars H c) ≡ true) l h in
-      let p = and_split (list_all (may_stand g (of_side Both) Boolean) H) (may_stand g (of_side Both) Boolean c) k in
-      and_both (list_all (may_stand g (of_side side) Boolean) (map (projected side) H)) _ (sides-stand g side H p.0)
+      let p = and_split (list_all (may_stand g (of_side Both) Boolean) H)
+      (may_stand g (of_side Both) Boolean c) k in
+      and_both (list_all (may_stand g (of_side side) Boolean) (map (projected side) H)) _
+      (sides-stand g side H p.0)
       (side-stands g side Boolean c p.1)
 
   pure-goal : (t : TermTree) → has_sort g [] Boolean t ≡ true
       → may_stand g of_trace Boolean (pure_or_false t) ≡ true
   pure-goal t h = go (is_pure t) refl
     where
-      go : (b : Bool) → is_pure t ≡ b → may_stand g of_trace Boolean (if b then t else falsity) ≡ true
+      go : (b : Bool) → is_pure t ≡ b → may_stand g of_trace Boolean (if b then t else falsity)
+          ≡ true
       go true e = stands g of_trace Boolean t h e
       go false e = falsity-stands g ok of_trace
 
@@ -127,7 +143,8 @@ module _ (g : Signature) (ok : are_functions g.funs ≡ true) where
   trace-goal (equiv_body known items) c a h =
       ap (may_stand g of_trace Boolean) a ∙ falsity-stands g ok of_trace
 
-  items-sorted : (vars : List Sort) (H : List TermTree) (known : List (List Item)) (items : List Item) (r : Rewriting)
+  items-sorted : (vars : List Sort) (H : List TermTree) (known : List (List Item))
+      (items : List Item) (r : Rewriting)
       → IsTyped g of_trace r → is_sorted g (equiv vars H known items) ≡ true
       → is_sorted g (equiv vars H known (map (item_rewritten r) items)) ≡ true
   items-sorted vars H known items r ty h =
@@ -138,7 +155,9 @@ module _ (g : Signature) (ok : are_functions g.funs ≡ true) where
 
 -- ---- the premises of a row
 
-module _ (at : Site) (kept : is_environment at.env ≡ true) (binders : list_all is_binder_sort (vars_of at.sequent) ≡ true) (h : is_sorted (signature_at at) at.sequent ≡ true) where
+module _ (at : Site) (kept : is_environment at.env ≡ true)
+    (binders : list_all is_binder_sort (vars_of at.sequent) ≡ true)
+    (h : is_sorted (signature_at at) at.sequent ≡ true) where
   abbrev s : SequentTree
   s = at.sequent
 
@@ -155,9 +174,11 @@ module _ (at : Site) (kept : is_environment at.env ≡ true) (binders : list_all
   abbrev IsSorted : SequentTree → Type 0
   IsSorted p =
       (list_all is_binder_sort (vars_of p) ≡ true)
-      × (is_sorted (with_variables (signature_at at) (signature_at at).schemas (vars_of p)) p ≡ true)
+      × (is_sorted (with_variables (signature_at at) (signature_at at).schemas (vars_of p)) p
+      ≡ true)
 
-  same : (p : SequentTree) → vars_of p ≡ vars_of at.sequent → is_sorted (signature_at at) p ≡ true → IsSorted p
+  same : (p : SequentTree) → vars_of p ≡ vars_of at.sequent → is_sorted (signature_at at) p ≡ true
+      → IsSorted p
   same p e k = (
     ap (list_all is_binder_sort) e ∙ binders,
     subst (λ vs. is_sorted (with_variables g g.schemas vs) p ≡ true) (sym e) k,
@@ -166,10 +187,12 @@ module _ (at : Site) (kept : is_environment at.env ≡ true) (binders : list_all
   goal : (t : TermTree) → goal_of at.sequent ≡ Some t → suited (signature_at at) at.sequent t ≡ true
   goal t e = goal-suited g s t h e
 
-  asked : (t : TermTree) → suited (signature_at at) at.sequent t ≡ true → IsSorted (asking at.sequent t)
+  asked : (t : TermTree) → suited (signature_at at) at.sequent t ≡ true
+      → IsSorted (asking at.sequent t)
   asked t k = same (asking s t) (vars-asking s t) (asking-sorted g s t h k)
 
-  assumed : (t : TermTree) → suited (signature_at at) at.sequent t ≡ true → IsSorted (assuming at.sequent t)
+  assumed : (t : TermTree) → suited (signature_at at) at.sequent t ≡ true
+      → IsSorted (assuming at.sequent t)
   assumed t k = same (assuming s t) (vars-assuming s t) (assuming-sorted g s t h k)
 
   introduced : (a b : TermTree) → suited (signature_at at) at.sequent a ≡ true
@@ -192,7 +215,8 @@ module _ (at : Site) (kept : is_environment at.env ≡ true) (binders : list_all
       let over : vars_of (with_variable x p) ≡ vars_of at.sequent ++ x ∷ [] =
       with_variable-vars x p ∙ ap (λ vs. vs ++ x ∷ []) e in (
         ap (list_all is_binder_sort) over ∙ b,
-        subst (λ vs. is_sorted (with_variables g g.schemas vs) (with_variable x p) ≡ true) (sym over)
+        subst (λ vs. is_sorted (with_variables g g.schemas vs) (with_variable x p) ≡ true)
+            (sym over)
             (with_variable-sorted (wider g x) x p k),
       )
 
@@ -203,10 +227,12 @@ module _ (at : Site) (kept : is_environment at.env ≡ true) (binders : list_all
 
   used : (n : ℕ) (args : List TermArg) (side : Side) (F : TermTree) (ts : List TermTree)
       → row.IsLocal at side → row.Offers at n (length args) F → row.AreMessages at args ts
-      → may_stand (signature_at at) (subject_of (body_of at.sequent)) Boolean (instance_on side ts F) ≡ true
+      → may_stand (signature_at at) (subject_of (body_of at.sequent)) Boolean
+      (instance_on side ts F) ≡ true
   unfolding standing.may_stand
   used n args side F ts l o m =
-      use_stands at.env at.goal n (length args) F o.is_usable (offered-stated at n (length args) F kept o)
+      use_stands at.env at.goal n (length args) F o.is_usable
+      (offered-stated at n (length args) F kept o)
       s side ts l (messages-stand at args ts m) (messages-count at args ts m)
 
   -- an equation of a local sequent has its messages
@@ -214,8 +240,11 @@ module _ (at : Site) (kept : is_environment at.env ≡ true) (binders : list_all
       → (may_stand (signature_at at) (subject_of (body_of at.sequent)) Message u ≡ true)
       × (may_stand (signature_at at) (subject_of (body_of at.sequent)) Message v ≡ true)
   equation u v e =
-      let k = goal (equal u v) (local_goal_is s (equal u v) e) in
-      (first-stands g about Boolean kind.equality u v k, second-stands g about Boolean kind.equality u v k)
+      let k = goal (equal u v) (local_goal_is s (equal u v) e) in (
+        first-stands g about Boolean kind.equality u v k,
+        second-stands g about Boolean kind.equality
+            u v k,
+      )
 
   asked-equal : (t u v : TermTree) → row.AsksLocally at t
       → may_stand (signature_at at) (subject_of (body_of at.sequent)) Message u ≡ true
@@ -225,7 +254,8 @@ module _ (at : Site) (kept : is_environment at.env ≡ true) (binders : list_all
       let q = on-a-side s t e in
       asked (equal u v) (equal-suited g ok about q.0 u v q.1 i j)
 
-  asked-arguments : (t : TermTree) (f : Kind) (is : List Idx) (us vs : TermTrees) → row.AsksLocally at t
+  asked-arguments : (t : TermTree) (f : Kind) (is : List Idx) (us vs : TermTrees)
+      → row.AsksLocally at t
       → may_stand (signature_at at) (subject_of (body_of at.sequent)) Message (fun f is us) ≡ true
       → may_stand (signature_at at) (subject_of (body_of at.sequent)) Message (fun f is vs) ≡ true
       → Each IsSorted (arguments_asked at.sequent f 0 us vs)
@@ -239,7 +269,8 @@ module _ (at : Site) (kept : is_environment at.env ≡ true) (binders : list_all
   rewriting : (k : ℕ) (r : Rewriting) (p : Target) (premise : SequentTree)
       → IsTyped (signature_at at) (subject_of (body_of at.sequent)) r → Rewritten at k r p premise
       → IsSorted premise
-  rewriting k r _ _ ty (in_goal c e) = asked (rewritten r c) (stands-rewritten g about r ty Boolean c (goal c e))
+  rewriting k r _ _ ty (in_goal c e) =
+      asked (rewritten r c) (stands-rewritten g about r ty Boolean c (goal c e))
   rewriting k r _ _ ty (in_hypothesis n f other e) =
       let H : List TermTree = slice_set (hyps_of s) n (rewritten r f) in
       same (with_hyps H s) (vars-with s H)
@@ -249,7 +280,8 @@ module _ (at : Site) (kept : is_environment at.env ≡ true) (binders : list_all
   rewriting k r _ _ ty (in_items vars H known items e) =
       same (equiv vars H known (map (item_rewritten r) items)) (sym (ap vars_of e))
       (items-sorted g ok vars H known items r
-      (subst (λ q. IsTyped g (subject_of (body_of q)) r) e ty) (subst (λ q. is_sorted g q ≡ true) e h))
+      (subst (λ q. IsTyped g (subject_of (body_of q)) r) e ty)
+      (subst (λ q. is_sorted g q ≡ true) e h))
 
   pub row-sorted : (x : Step) (ps : List SequentTree) → Row at x ps → Each IsSorted ps
   row-sorted _ _ (row.hyp k t e f) = each_none IsSorted
@@ -274,7 +306,8 @@ module _ (at : Site) (kept : is_environment at.env ≡ true) (binders : list_all
       let k = goal (both a b) e in
       each_cons (asking s a) (asking s b ∷ []) IsSorted
       (asked a (first-stands g about Boolean kind.conjunction a b k))
-      (each_single (asking s b) IsSorted (asked b (second-stands g about Boolean kind.conjunction a b k)))
+      (each_single (asking s b) IsSorted
+      (asked b (second-stands g about Boolean kind.conjunction a b k)))
   row-sorted _ _ (row.orl a b e) =
       each_single (asking s a) IsSorted
       (asked a (first-stands g about Boolean kind.disjunction a b (goal (either a b) e)))
@@ -293,18 +326,21 @@ module _ (at : Site) (kept : is_environment at.env ≡ true) (binders : list_all
       let k = hyp-suited g s n (either a b) h e in
       each_cons (assuming s a) (assuming s b ∷ []) IsSorted
       (assumed a (first-stands g about Boolean kind.disjunction a b k))
-      (each_single (assuming s b) IsSorted (assumed b (second-stands g about Boolean kind.disjunction a b k)))
+      (each_single (assuming s b) IsSorted
+      (assumed b (second-stands g about Boolean kind.disjunction a b k)))
   row-sorted _ _ (row.impe n a b e) =
       let k = hyp-suited g s n (implies a b) h e in
       each_cons (asking s a) (assuming s b ∷ []) IsSorted
       (asked a (first-stands g about Boolean kind.implication a b k))
-      (each_single (assuming s b) IsSorted (assumed b (second-stands g about Boolean kind.implication a b k)))
+      (each_single (assuming s b) IsSorted
+      (assumed b (second-stands g about Boolean kind.implication a b k)))
   row-sorted _ _ (row.note n a e) =
       each_single (asking s a) IsSorted
       (asked a (only-stands g about Boolean kind.negation a (hyp-suited g s n (negation a) h e)))
   row-sorted _ _ (row.alle n arg x F w e v) =
       each_single (assuming s (opened w F)) IsSorted
-      (assumed (opened w F) (all-value g x w (value-sort at x arg w v) about F (hyp-suited g s n (all x F) h e)))
+      (assumed (opened w F)
+      (all-value g x w (value-sort at x arg w v) about F (hyp-suited g s n (all x F) h e)))
   row-sorted _ _ (row.exe n x F e) =
       let k = hyp-suited g s n (some x F) h e in
       let F' : TermTree = opened (new_variable x s) F in
@@ -318,10 +354,12 @@ module _ (at : Site) (kept : is_environment at.env ≡ true) (binders : list_all
   row-sorted _ _ (row.em arg F e) =
       let k = term-suited Boolean arg F e in
       each_cons (assuming s F) (assuming s (negation F) ∷ []) IsSorted (assumed F k)
-      (each_single (assuming s (negation F)) IsSorted (assumed (negation F) (negation-stands g ok about F k)))
+      (each_single (assuming s (negation F)) IsSorted
+      (assumed (negation F) (negation-stands g ok about F k)))
   row-sorted _ _ (row.drop n l) =
       let H : List TermTree = without (hyps_of s) n in
-      each_single (with_hyps H s) IsSorted (same (with_hyps H s) (vars-with s H) (without-sorted g s n h))
+      each_single (with_hyps H s) IsSorted
+      (same (with_hyps H s) (vars-with s H) (without-sorted g s n h))
   row-sorted _ _ (row.use_statement n args side F ts l o m) =
       each_single (assuming s (instance_on side ts F)) IsSorted
       (assumed (instance_on side ts F) (used n args side F ts l o m))
@@ -374,16 +412,19 @@ fit-at (q ∷ qs) h =
 pub signature-is : (at : Site) (st : StmtTree) (system : SystemTree) (vars : List Sort)
     → slice_get at.env.stmts at.goal ≡ Some st → slice_get at.env.systems st.system ≡ Some system
     → signature_of at.env system (length st.schemas) vars
-    ≡ signature_of at.env (system_of at.env at.goal) (length (statement_at at.env at.goal).schemas) vars
+    ≡ signature_of at.env (system_of at.env at.goal)
+    (length (statement_at at.env at.goal).schemas) vars
 signature-is at st system vars e h =
     let p : statement_at at.env at.goal ≡ st =
     get_or_from_slice_get at.env.stmts at.goal st no_statement e in
     let q : get_or at.env.systems st.system no_actions ≡ system =
     get_or_from_slice_get at.env.systems st.system system no_actions h in
     ap (λ x. signature_of at.env x (length st.schemas) vars) (sym q)
-    ∙ ap (λ (r : StmtTree). signature_of at.env (get_or at.env.systems r.system no_actions) (length r.schemas) vars) (sym p)
+    ∙ ap (λ (r : StmtTree). signature_of at.env (get_or at.env.systems r.system no_actions)
+    (length r.schemas) vars) (sym p)
 
-module _ (at : Site) (kept : is_environment at.env ≡ true) (x : Step) (ps : List SequentTree) (r : Row at x ps) (fit : all_fit ps ≡ true) where
+module _ (at : Site) (kept : is_environment at.env ≡ true) (x : Step) (ps : List SequentTree)
+    (r : Row at x ps) (fit : all_fit ps ≡ true) where
   of-system : (st : StmtTree) (o : Option SystemTree) → slice_get at.env.stmts at.goal ≡ Some st
       → slice_get at.env.systems st.system ≡ o
       → is_sequent_of at.env o (length st.schemas) at.sequent ≡ true
@@ -392,9 +433,11 @@ module _ (at : Site) (kept : is_environment at.env ≡ true) (x : Step) (ps : Li
   of-system st (Some system) e q h =
       let n : ℕ = length st.schemas in
       let v = and_split (list_all is_binder_sort (vars_of at.sequent)) _ h in
-      let w = and_split (is_sorted (signature_of at.env system n (vars_of at.sequent)) at.sequent) (fits at.sequent) v.1 in
+      let w = and_split (is_sorted (signature_of at.env system n (vars_of at.sequent)) at.sequent)
+      (fits at.sequent) v.1 in
       let sorted : is_sorted (signature_at at) at.sequent ≡ true =
-      subst (λ g. is_sorted g at.sequent ≡ true) (signature-is at st system (vars_of at.sequent) e q) w.0 in
+      subst (λ g. is_sorted g at.sequent ≡ true)
+      (signature-is at st system (vars_of at.sequent) e q) w.0 in
       let each = row-sorted at kept v.0 sorted x ps r in
       λ p i.
       let k = each p i in
@@ -410,4 +453,5 @@ module _ (at : Site) (kept : is_environment at.env ≡ true) (x : Step) (ps : Li
   of-statement (Some st) e h = of-system st (slice_get at.env.systems st.system) e refl h
 
 pub preserved : (at : Site) (x : Step) → is_environment at.env ≡ true → PreservedByRows at x
-preserved at x kept ps h r fit = of-statement at kept x ps r fit (slice_get at.env.stmts at.goal) refl h
+preserved at x kept ps h r fit =
+    of-statement at kept x ps r fit (slice_get at.env.stmts at.goal) refl h

@@ -1,5 +1,6 @@
 -- What a hypothesis rewrites, read by its shape.
-use Rattle.std.proofs.Common.{◌≡◌, refl, sym, ap, ◌∙◌, Option, Some, None, Bool, true, false, ◌&&◌, Bor}
+use Rattle.std.proofs.Common.{◌≡◌, refl, sym, ap, ◌∙◌, Option, Some, None, Bool, true, false, ◌&&◌}
+use Rattle.std.proofs.Common.{Bor}
 use Rattle.std.specs.Prelude.{if◌then◌else◌}
 use Rattle.sq_term.specs.declared.term.Idx.{Idx}
 use Rattle.sq_term.specs.declared.term.Term.{Term}
@@ -8,22 +9,27 @@ use Rattle.sq_term.specs.Formulas.{both, implies, equal}
 use Rattle.sq_term.specs.Syntax.{TsTree, TermTree, ts_eq, idx_eq}
 use Rattle.sq_term.specs.TreeEquality.{is_same_tree}
 use Rattle.sq_term.proofs.BoolTests.{and_both}
-use Rattle.sq_sequent.specs.declared.shapes.Shape.{Shape}
-use Rattle.sq_sequent.specs.declared.shapes.Shape.TheVariants as shape
-use Rattle.sq_sequent.specs.Rewriting.{Rewriting, term_by, time_by, index_by, by_equation, by_equivalence}
-use Rattle.sq_sequent.specs.Shapes.{is_plain, Reads}
+use Rattle.sq_formula.specs.declared.shapes.Shape.{Shape}
+use Rattle.sq_formula.specs.declared.shapes.Shape.TheVariants as shape
+use Rattle.sq_sequent.specs.Rewriting.{Rewriting, term_by, time_by, index_by}
+use Rattle.sq_sequent.specs.RewriteRow.{by_equation}
+use Rattle.sq_sequent.specs.RewriteRow.{by_equivalence}
+use Rattle.sq_formula.specs.Shapes.{is_plain, Reads}
 
 -- ---- an equation
 
-pub messages-there : (t a b : TermTree) → Some t ≡ Some (equal a b) → Some (term_by a b) ≡ by_equation t
+pub messages-there : (t a b : TermTree) → Some t ≡ Some (equal a b)
+    → Some (term_by a b) ≡ by_equation t
 unfolding by_equation
 messages-there t a b e = let z : t ≡ equal a b = cc in sym (ap by_equation z)
 
-pub times-there : (t : TermTree) (a b : TsTree) → Some t ≡ Some (ts_eq a b) → Some (time_by a b) ≡ by_equation t
+pub times-there : (t : TermTree) (a b : TsTree) → Some t ≡ Some (ts_eq a b)
+    → Some (time_by a b) ≡ by_equation t
 unfolding by_equation
 times-there t a b e = let z : t ≡ ts_eq a b = cc in sym (ap by_equation z)
 
-pub indices-there : (t : TermTree) (i j : Idx) → Some t ≡ Some (idx_eq i j) → Some (index_by i j) ≡ by_equation t
+pub indices-there : (t : TermTree) (i j : Idx) → Some t ≡ Some (idx_eq i j)
+    → Some (index_by i j) ≡ by_equation t
 unfolding by_equation
 indices-there t i j e = let z : t ≡ idx_eq i j = cc in sym (ap by_equation z)
 
@@ -76,12 +82,15 @@ both-read p q a b c d e f s h =
     sym (ap (with_there q) e ∙ (ap (with_back (implies a b)) f
     ∙ ap (λ x. if x then Some (term_by a b) else None) h))
 
-pub halves-same : (p q a b c d : TermTree) → Some p ≡ Some (implies a b) → Some q ≡ Some (implies c d)
-    → is_same_tree a d ≡ true → is_same_tree b c ≡ true → Some (term_by a b) ≡ by_equivalence (both p q)
+pub halves-same : (p q a b c d : TermTree) → Some p ≡ Some (implies a b)
+    → Some q ≡ Some (implies c d)
+    → is_same_tree a d ≡ true → is_same_tree b c ≡ true
+    → Some (term_by a b) ≡ by_equivalence (both p q)
 halves-same p q a b c d e f h k =
     both-read p q a b c d e f true (and_both (is_same_tree a d) (is_same_tree b c) h k)
 
-pub halves-first : (p q a b c d : TermTree) → Some p ≡ Some (implies a b) → Some q ≡ Some (implies c d)
+pub halves-first : (p q a b c d : TermTree) → Some p ≡ Some (implies a b)
+    → Some q ≡ Some (implies c d)
     → is_same_tree a d ≡ false → None ≡ by_equivalence (both p q)
 halves-first p q a b c d e f h = both-read p q a b c d e f false (ap (λ x. x && is_same_tree b c) h)
 
@@ -89,12 +98,14 @@ no_second : (x y : Bool) → y ≡ false → (x && y) ≡ false
 no_second true y e = e
 no_second false y e = refl
 
-pub halves-second : (p q a b c d : TermTree) → Some p ≡ Some (implies a b) → Some q ≡ Some (implies c d)
+pub halves-second : (p q a b c d : TermTree) → Some p ≡ Some (implies a b)
+    → Some q ≡ Some (implies c d)
     → is_same_tree b c ≡ false → None ≡ by_equivalence (both p q)
 halves-second p q a b c d e f h =
     both-read p q a b c d e f false (no_second (is_same_tree a d) (is_same_tree b c) h)
 
-plain-back : (a b q : TermTree) → is_plain (Some q) ≡ true → None ≡ by_equivalence (both (implies a b) q)
+plain-back : (a b q : TermTree) → is_plain (Some q) ≡ true
+    → None ≡ by_equivalence (both (implies a b) q)
 unfolding is_plain by_equivalence
 plain-back a b (implies c d) h = no_plain h
 plain-back a b _ h = refl

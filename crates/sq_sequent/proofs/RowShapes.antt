@@ -1,5 +1,6 @@
 -- What a row leaves by the shape of the term that it asks for, as the program reads it.
-use Rattle.std.proofs.Common.{◌≡◌, refl, sym, ap, ◌∙◌, subst, List, [], ◌∷◌, Option, Some, None, Result, Err, Bool, true, false, Bor}
+use Rattle.std.proofs.Common.{◌≡◌, refl, sym, ap, ◌∙◌, subst, List, [], ◌∷◌, Option, Some, None}
+use Rattle.std.proofs.Common.{Result, Err, Bool, true, false, Bor}
 use Rattle.sq_base.specs.Gives.{Gives}
 use Rattle.sq_base.specs.declared.sort.Sort.{Sort}
 use Rattle.sq_term.specs.Arguments.{ArgTree}
@@ -11,15 +12,15 @@ use Rattle.sq_term.specs.Syntax.{TermTree, ts_eq, idx_eq, all, some}
 use Rattle.sq_subst.specs.Substitution.{opened}
 use Rattle.sq_system.specs.declared.sequent.Sequent.{Sequent}
 use Rattle.sq_system.specs.Sequents.{SequentTree}
-use Rattle.sq_sequent.specs.declared.fault.RuleFault.{RuleFault}
-use Rattle.sq_sequent.specs.declared.fault.RuleFault.TheVariants as fault
-use Rattle.sq_sequent.specs.declared.shapes.Shape.{Shape}
-use Rattle.sq_sequent.specs.declared.shapes.Shape.TheVariants as shape
-use Rattle.sq_sequent.specs.declared.step.ValArg.{ValArg}
+use Rattle.sq_system.specs.declared.fault.RuleFault.{RuleFault}
+use Rattle.sq_system.specs.declared.fault.RuleFault.TheVariants as fault
+use Rattle.sq_formula.specs.declared.shapes.Shape.{Shape}
+use Rattle.sq_formula.specs.declared.shapes.Shape.TheVariants as shape
+use Rattle.sq_step.specs.declared.step.ValArg.{ValArg}
 use Rattle.sq_sequent.specs.Logic as row
 use Rattle.sq_sequent.specs.Logic.{sequent_trees, within_limits, judged}
 use Rattle.sq_sequent.specs.Premises.{asking, assuming, with_variable, new_variable}
-use Rattle.sq_sequent.specs.Shapes.{is_plain, Reads}
+use Rattle.sq_formula.specs.Shapes.{is_plain, Reads}
 use Rattle.sq_sequent.specs.Site.{Site}
 use Rattle.sq_sequent.specs.Standing.{value_in}
 
@@ -91,7 +92,8 @@ impi-plain s None h = refl
 impi-plain s (Some (implies a b)) h = no_plain h
 impi-plain s (Some t) h = refl
 
-pub impi-else : (s : SequentTree) (sh : Shape) (found o : Option TermTree) → found ≡ o → Reads sh found
+pub impi-else : (s : SequentTree) (sh : Shape) (found o : Option TermTree) → found ≡ o
+    → Reads sh found
     → ((a : Bor Term) (b : Bor Term) → sh ≡ shape.Implies a b → ⊥)
     → judged (row.impi_row s o) ≡ Err fault.Shape
 unfolding row.impi_row
@@ -99,7 +101,8 @@ impi-else s (shape.Implies a b) found o e r n = absurd (n a b refl)
 impi-else s shape.Other found o e r n = ap judged (impi-plain s o (ap is_plain (sym e) ∙ r))
 impi-else s _ found o e r n = ap (λ t. judged (row.impi_row s t)) (sym e ∙ r)
 
-pub impi-there : (s : SequentTree) (found o : Option TermTree) (a : TermTree) (b : TermTree) → found ≡ o
+pub impi-there : (s : SequentTree) (found o : Option TermTree) (a : TermTree) (b : TermTree)
+    → found ≡ o
     → found ≡ Some (implies a b)
     → row.impi_row s o ≡ Some (assuming (asking s b) a ∷ [])
 unfolding row.impi_row
@@ -111,7 +114,8 @@ noti-plain s None h = refl
 noti-plain s (Some (negation a)) h = no_plain h
 noti-plain s (Some t) h = refl
 
-pub noti-else : (s : SequentTree) (sh : Shape) (found o : Option TermTree) → found ≡ o → Reads sh found
+pub noti-else : (s : SequentTree) (sh : Shape) (found o : Option TermTree) → found ≡ o
+    → Reads sh found
     → ((a : Bor Term) → sh ≡ shape.Not a → ⊥)
     → judged (row.noti_row s o) ≡ Err fault.Shape
 unfolding row.noti_row
@@ -131,7 +135,8 @@ alli-plain s None h = refl
 alli-plain s (Some (all x a)) h = no_plain h
 alli-plain s (Some t) h = refl
 
-pub alli-else : (s : SequentTree) (sh : Shape) (found o : Option TermTree) → found ≡ o → Reads sh found
+pub alli-else : (s : SequentTree) (sh : Shape) (found o : Option TermTree) → found ≡ o
+    → Reads sh found
     → ((x : Sort) (a : Bor Term) → sh ≡ shape.Forall x a → ⊥)
     → judged (row.alli_row s o) ≡ Err fault.Shape
 unfolding row.alli_row
@@ -151,7 +156,8 @@ andi-plain s None h = refl
 andi-plain s (Some (both a b)) h = no_plain h
 andi-plain s (Some t) h = refl
 
-pub andi-else : (s : SequentTree) (sh : Shape) (found o : Option TermTree) → found ≡ o → Reads sh found
+pub andi-else : (s : SequentTree) (sh : Shape) (found o : Option TermTree) → found ≡ o
+    → Reads sh found
     → ((a : Bor Term) (b : Bor Term) → sh ≡ shape.And a b → ⊥)
     → judged (row.andi_row s o) ≡ Err fault.Shape
 unfolding row.andi_row
@@ -159,7 +165,8 @@ andi-else s (shape.And a b) found o e r n = absurd (n a b refl)
 andi-else s shape.Other found o e r n = ap judged (andi-plain s o (ap is_plain (sym e) ∙ r))
 andi-else s _ found o e r n = ap (λ t. judged (row.andi_row s t)) (sym e ∙ r)
 
-pub andi-there : (s : SequentTree) (found o : Option TermTree) (a : TermTree) (b : TermTree) → found ≡ o
+pub andi-there : (s : SequentTree) (found o : Option TermTree) (a : TermTree) (b : TermTree)
+    → found ≡ o
     → found ≡ Some (both a b)
     → row.andi_row s o ≡ Some (asking s a ∷ asking s b ∷ [])
 unfolding row.andi_row
@@ -171,7 +178,8 @@ orl-plain s None h = refl
 orl-plain s (Some (either a b)) h = no_plain h
 orl-plain s (Some t) h = refl
 
-pub orl-else : (s : SequentTree) (sh : Shape) (found o : Option TermTree) → found ≡ o → Reads sh found
+pub orl-else : (s : SequentTree) (sh : Shape) (found o : Option TermTree) → found ≡ o
+    → Reads sh found
     → ((a : Bor Term) (b : Bor Term) → sh ≡ shape.Or a b → ⊥)
     → judged (row.orl_row s o) ≡ Err fault.Shape
 unfolding row.orl_row
@@ -179,7 +187,8 @@ orl-else s (shape.Or a b) found o e r n = absurd (n a b refl)
 orl-else s shape.Other found o e r n = ap judged (orl-plain s o (ap is_plain (sym e) ∙ r))
 orl-else s _ found o e r n = ap (λ t. judged (row.orl_row s t)) (sym e ∙ r)
 
-pub orl-there : (s : SequentTree) (found o : Option TermTree) (a : TermTree) (b : TermTree) → found ≡ o
+pub orl-there : (s : SequentTree) (found o : Option TermTree) (a : TermTree) (b : TermTree)
+    → found ≡ o
     → found ≡ Some (either a b)
     → row.orl_row s o ≡ Some (asking s a ∷ [])
 unfolding row.orl_row
@@ -191,7 +200,8 @@ orr-plain s None h = refl
 orr-plain s (Some (either a b)) h = no_plain h
 orr-plain s (Some t) h = refl
 
-pub orr-else : (s : SequentTree) (sh : Shape) (found o : Option TermTree) → found ≡ o → Reads sh found
+pub orr-else : (s : SequentTree) (sh : Shape) (found o : Option TermTree) → found ≡ o
+    → Reads sh found
     → ((a : Bor Term) (b : Bor Term) → sh ≡ shape.Or a b → ⊥)
     → judged (row.orr_row s o) ≡ Err fault.Shape
 unfolding row.orr_row
@@ -199,7 +209,8 @@ orr-else s (shape.Or a b) found o e r n = absurd (n a b refl)
 orr-else s shape.Other found o e r n = ap judged (orr-plain s o (ap is_plain (sym e) ∙ r))
 orr-else s _ found o e r n = ap (λ t. judged (row.orr_row s t)) (sym e ∙ r)
 
-pub orr-there : (s : SequentTree) (found o : Option TermTree) (a : TermTree) (b : TermTree) → found ≡ o
+pub orr-there : (s : SequentTree) (found o : Option TermTree) (a : TermTree) (b : TermTree)
+    → found ≡ o
     → found ≡ Some (either a b)
     → row.orr_row s o ≡ Some (asking s b ∷ [])
 unfolding row.orr_row
@@ -211,7 +222,8 @@ ande-plain s None h = refl
 ande-plain s (Some (both a b)) h = no_plain h
 ande-plain s (Some t) h = refl
 
-pub ande-else : (s : SequentTree) (sh : Shape) (found o : Option TermTree) → found ≡ o → Reads sh found
+pub ande-else : (s : SequentTree) (sh : Shape) (found o : Option TermTree) → found ≡ o
+    → Reads sh found
     → ((a : Bor Term) (b : Bor Term) → sh ≡ shape.And a b → ⊥)
     → judged (row.ande_row s o) ≡ Err fault.Shape
 unfolding row.ande_row
@@ -219,7 +231,8 @@ ande-else s (shape.And a b) found o e r n = absurd (n a b refl)
 ande-else s shape.Other found o e r n = ap judged (ande-plain s o (ap is_plain (sym e) ∙ r))
 ande-else s _ found o e r n = ap (λ t. judged (row.ande_row s t)) (sym e ∙ r)
 
-pub ande-there : (s : SequentTree) (found o : Option TermTree) (a : TermTree) (b : TermTree) → found ≡ o
+pub ande-there : (s : SequentTree) (found o : Option TermTree) (a : TermTree) (b : TermTree)
+    → found ≡ o
     → found ≡ Some (both a b)
     → row.ande_row s o ≡ Some (assuming (assuming s a) b ∷ [])
 unfolding row.ande_row
@@ -231,7 +244,8 @@ ore-plain s None h = refl
 ore-plain s (Some (either a b)) h = no_plain h
 ore-plain s (Some t) h = refl
 
-pub ore-else : (s : SequentTree) (sh : Shape) (found o : Option TermTree) → found ≡ o → Reads sh found
+pub ore-else : (s : SequentTree) (sh : Shape) (found o : Option TermTree) → found ≡ o
+    → Reads sh found
     → ((a : Bor Term) (b : Bor Term) → sh ≡ shape.Or a b → ⊥)
     → judged (row.ore_row s o) ≡ Err fault.Shape
 unfolding row.ore_row
@@ -239,7 +253,8 @@ ore-else s (shape.Or a b) found o e r n = absurd (n a b refl)
 ore-else s shape.Other found o e r n = ap judged (ore-plain s o (ap is_plain (sym e) ∙ r))
 ore-else s _ found o e r n = ap (λ t. judged (row.ore_row s t)) (sym e ∙ r)
 
-pub ore-there : (s : SequentTree) (found o : Option TermTree) (a : TermTree) (b : TermTree) → found ≡ o
+pub ore-there : (s : SequentTree) (found o : Option TermTree) (a : TermTree) (b : TermTree)
+    → found ≡ o
     → found ≡ Some (either a b)
     → row.ore_row s o ≡ Some (assuming s a ∷ assuming s b ∷ [])
 unfolding row.ore_row
@@ -251,7 +266,8 @@ impe-plain s None h = refl
 impe-plain s (Some (implies a b)) h = no_plain h
 impe-plain s (Some t) h = refl
 
-pub impe-else : (s : SequentTree) (sh : Shape) (found o : Option TermTree) → found ≡ o → Reads sh found
+pub impe-else : (s : SequentTree) (sh : Shape) (found o : Option TermTree) → found ≡ o
+    → Reads sh found
     → ((a : Bor Term) (b : Bor Term) → sh ≡ shape.Implies a b → ⊥)
     → judged (row.impe_row s o) ≡ Err fault.Shape
 unfolding row.impe_row
@@ -259,7 +275,8 @@ impe-else s (shape.Implies a b) found o e r n = absurd (n a b refl)
 impe-else s shape.Other found o e r n = ap judged (impe-plain s o (ap is_plain (sym e) ∙ r))
 impe-else s _ found o e r n = ap (λ t. judged (row.impe_row s t)) (sym e ∙ r)
 
-pub impe-there : (s : SequentTree) (found o : Option TermTree) (a : TermTree) (b : TermTree) → found ≡ o
+pub impe-there : (s : SequentTree) (found o : Option TermTree) (a : TermTree) (b : TermTree)
+    → found ≡ o
     → found ≡ Some (implies a b)
     → row.impe_row s o ≡ Some (asking s a ∷ assuming s b ∷ [])
 unfolding row.impe_row
@@ -271,7 +288,8 @@ note-plain s None h = refl
 note-plain s (Some (negation a)) h = no_plain h
 note-plain s (Some t) h = refl
 
-pub note-else : (s : SequentTree) (sh : Shape) (found o : Option TermTree) → found ≡ o → Reads sh found
+pub note-else : (s : SequentTree) (sh : Shape) (found o : Option TermTree) → found ≡ o
+    → Reads sh found
     → ((a : Bor Term) → sh ≡ shape.Not a → ⊥)
     → judged (row.note_row s o) ≡ Err fault.Shape
 unfolding row.note_row
@@ -291,7 +309,8 @@ exe-plain s None h = refl
 exe-plain s (Some (some x a)) h = no_plain h
 exe-plain s (Some t) h = refl
 
-pub exe-else : (s : SequentTree) (sh : Shape) (found o : Option TermTree) → found ≡ o → Reads sh found
+pub exe-else : (s : SequentTree) (sh : Shape) (found o : Option TermTree) → found ≡ o
+    → Reads sh found
     → ((x : Sort) (a : Bor Term) → sh ≡ shape.Exists x a → ⊥)
     → judged (row.exe_row s o) ≡ Err fault.Shape
 unfolding row.exe_row
@@ -311,7 +330,8 @@ sym-plain s None h = refl
 sym-plain s (Some (equal a b)) h = no_plain h
 sym-plain s (Some t) h = refl
 
-pub sym-else : (s : SequentTree) (sh : Shape) (found o : Option TermTree) → found ≡ o → Reads sh found
+pub sym-else : (s : SequentTree) (sh : Shape) (found o : Option TermTree) → found ≡ o
+    → Reads sh found
     → ((a : Bor Term) (b : Bor Term) → sh ≡ shape.Equal a b → ⊥)
     → judged (row.sym_row s o) ≡ Err fault.Shape
 unfolding row.sym_row
@@ -319,7 +339,8 @@ sym-else s (shape.Equal a b) found o e r n = absurd (n a b refl)
 sym-else s shape.Other found o e r n = ap judged (sym-plain s o (ap is_plain (sym e) ∙ r))
 sym-else s _ found o e r n = ap (λ t. judged (row.sym_row s t)) (sym e ∙ r)
 
-pub sym-there : (s : SequentTree) (found o : Option TermTree) (a : TermTree) (b : TermTree) → found ≡ o
+pub sym-there : (s : SequentTree) (found o : Option TermTree) (a : TermTree) (b : TermTree)
+    → found ≡ o
     → found ≡ Some (equal a b)
     → row.sym_row s o ≡ Some (asking s (equal b a) ∷ [])
 unfolding row.sym_row
@@ -423,7 +444,8 @@ arg-there s found o a b e r = ap (row.arg_row s) (sym e ∙ r)
 
 -- ---- equations of one term, timestamp or index
 
-reflexive-plain : (m : Bool) (t : TermTree) → is_plain (Some t) ≡ true → row.is_reflexive m t ≡ false
+reflexive-plain : (m : Bool) (t : TermTree) → is_plain (Some t) ≡ true
+    → row.is_reflexive m t ≡ false
 unfolding is_plain row.is_reflexive
 reflexive-plain m (equal a b) h = no_plain h
 reflexive-plain m (ts_eq a b) h = no_plain h

@@ -1,6 +1,7 @@
 -- What stands in a well-sorted sequent, and what leaves it well-sorted.
-use Rattle.std.proofs.Common.{◌≡◌, ℕ, zero, suc, refl, ap, ◌∙◌, List, [], ◌∷◌, ◌++◌, Some, Bool, true, false, cond, ◌&&◌}
-use Rattle.std.specs.Prelude.{slice_get, slice_set}
+use Rattle.std.proofs.Common.{◌≡◌, ℕ, zero, suc, refl, ap, ◌∙◌, List, [], ◌∷◌, ◌++◌, Some, Bool}
+use Rattle.std.proofs.Common.{true, false, ◌&&◌}
+use Rattle.std.specs.Prelude.{slice_get, slice_set, if◌then◌else◌}
 use Rattle.std.specs.List.{list_all}
 use Rattle.std.proofs.lemmas.List.Folds.{list_all-append}
 use Rattle.sq_base.specs.declared.sort.Sort.TheVariants.{Boolean}
@@ -11,7 +12,8 @@ use Rattle.sq_typing.specs.Standing.{of_trace, of_side, may_stand}
 use Rattle.sq_typing.specs.Typing.{Signature, has_sort}
 use Rattle.sq_typing.proofs.Formulas.{sort-of, stands}
 use Rattle.sq_system.specs.Sequents.{SequentTree, sequent, trace, local, equiv, hyps_of, body_of}
-use Rattle.sq_system.specs.WellFormed.{subject_of, is_sorted_body, is_sorted}
+use Rattle.sq_system.specs.Scopes.{subject_of}
+use Rattle.sq_system.specs.WellFormed.{is_sorted_body, is_sorted}
 use Rattle.sq_sequent.specs.Views.{goal_of, local_goal_of, hyp_of}
 use Rattle.sq_sequent.specs.Premises.{asking, assuming, with_hyps, without, pure_ones}
 
@@ -55,13 +57,16 @@ suited g s t = may_stand g (subject_of (body_of s)) Boolean t
 
 module _ (g : Signature) where
   -- of a well-sorted sequent
-  pub hyps-sorted : (s : SequentTree) → is_sorted g s ≡ true → list_all (suited g s) (hyps_of s) ≡ true
+  pub hyps-sorted : (s : SequentTree) → is_sorted g s ≡ true
+      → list_all (suited g s) (hyps_of s) ≡ true
   hyps-sorted (sequent vars hyps body) h =
-      (and_split (list_all (may_stand g (subject_of body) Boolean) hyps) (is_sorted_body g body) h).0
+      (and_split (list_all (may_stand g (subject_of body) Boolean) hyps)
+      (is_sorted_body g body) h).0
 
   pub body-sorted : (s : SequentTree) → is_sorted g s ≡ true → is_sorted_body g (body_of s) ≡ true
   body-sorted (sequent vars hyps body) h =
-      (and_split (list_all (may_stand g (subject_of body) Boolean) hyps) (is_sorted_body g body) h).1
+      (and_split (list_all (may_stand g (subject_of body) Boolean) hyps)
+      (is_sorted_body g body) h).1
 
   pub hyp-suited : (s : SequentTree) (k : ℕ) (t : TermTree) → is_sorted g s ≡ true
       → hyp_of s k ≡ Some t → suited g s t ≡ true
@@ -97,8 +102,10 @@ module _ (g : Signature) where
       → suited g s t ≡ true → is_sorted g (assuming s t) ≡ true
   unfolding assuming
   assuming-sorted (sequent vars hyps body) t h e =
-      and_both (list_all (may_stand g (subject_of body) Boolean) (hyps ++ t ∷ [])) (is_sorted_body g body)
-      (all-push (may_stand g (subject_of body) Boolean) hyps t (hyps-sorted (sequent vars hyps body) h) e)
+      and_both (list_all (may_stand g (subject_of body) Boolean) (hyps ++ t ∷ []))
+      (is_sorted_body g body)
+      (all-push (may_stand g (subject_of body) Boolean) hyps t
+      (hyps-sorted (sequent vars hyps body) h) e)
       (body-sorted (sequent vars hyps body) h)
 
   pub asking-sorted : (s : SequentTree) (t : TermTree) → is_sorted g s ≡ true
@@ -108,7 +115,8 @@ module _ (g : Signature) where
       and_both (list_all (may_stand g of_trace Boolean) hyps) (may_stand g of_trace Boolean t)
       (hyps-sorted (trace vars hyps goal) h) e
   asking-sorted (local side vars hyps goal) t h e =
-      and_both (list_all (may_stand g (of_side side) Boolean) hyps) (may_stand g (of_side side) Boolean t)
+      and_both (list_all (may_stand g (of_side side) Boolean) hyps)
+      (may_stand g (of_side side) Boolean t)
       (hyps-sorted (local side vars hyps goal) h) e
   asking-sorted (equiv vars hyps known items) t h e =
       and_both (list_all (may_stand g of_trace Boolean) hyps) (may_stand g of_trace Boolean t)
@@ -133,13 +141,16 @@ module _ (g : Signature) where
   pure_ones-sorted s [] h = refl
   pure_ones-sorted s (t ∷ ts) h =
       let p = and_split (suited g s t) (list_all (suited g s) ts) h in
-      kept (is_pure t) refl (sort-of g (subject_of (body_of s)) Boolean t p.0) (pure_ones-sorted s ts p.1)
+      kept (is_pure t) refl (sort-of g (subject_of (body_of s)) Boolean t p.0)
+      (pure_ones-sorted s ts p.1)
     where
       kept : (b : Bool) → is_pure t ≡ b → has_sort g [] Boolean t ≡ true
           → list_all (may_stand g of_trace Boolean) (pure_ones ts) ≡ true
-          → list_all (may_stand g of_trace Boolean) (cond b (t ∷ pure_ones ts) (pure_ones ts)) ≡ true
+          → list_all (may_stand g of_trace Boolean) (if b then t ∷ pure_ones ts else pure_ones ts)
+          ≡ true
       kept true e f r =
-          and_both (may_stand g of_trace Boolean t) (list_all (may_stand g of_trace Boolean) (pure_ones ts))
+          and_both (may_stand g of_trace Boolean t)
+          (list_all (may_stand g of_trace Boolean) (pure_ones ts))
           (stands g of_trace Boolean t f e) r
       kept false e f r = r
 

@@ -1,12 +1,13 @@
 -- What an argument gives as a term may stand in the sequent.
-use Rattle.std.proofs.Common.{◌≡◌, refl, subst, List, [], ◌∷◌, ap, suc, length, Option, Some, None, Bool, true, false}
+use Rattle.std.proofs.Common.{◌≡◌, refl, subst, List, [], ◌∷◌, ap, suc, length, Option, Some, None}
+use Rattle.std.proofs.Common.{Bool, true, false}
 use Rattle.std.specs.Prelude.{if◌then◌else◌}
 use Rattle.std.specs.List.{list_all}
 use Rattle.sq_base.specs.declared.sort.Sort.{Sort}
 use Rattle.sq_base.specs.declared.sort.Sort.TheVariants.{Message}
 use Rattle.sq_term.specs.Syntax.{TermTree}
 use Rattle.sq_term.proofs.BoolTests.{and_both}
-use Rattle.sq_sequent.specs.declared.step.TermArg.{TermArg}
+use Rattle.sq_step.specs.declared.step.TermArg.{TermArg}
 use Rattle.sq_sequent.specs.Places.{term_at}
 use Rattle.sq_sequent.specs.Rows.{IsTerm, AreMessages}
 use Rattle.sq_sequent.specs.Site.{Site}
@@ -31,7 +32,8 @@ pub messages-stand : (at : Site) (args : List TermArg) (ts : List TermTree) → 
     → list_all (may_stand at Message) ts ≡ true
 messages-stand at [] [] e = refl
 messages-stand at (a ∷ args) (t ∷ ts) e =
-    and_both (may_stand at Message t) _ (term-stands at Message a t e.0) (messages-stand at args ts e.1)
+    and_both (may_stand at Message t) _ (term-stands at Message a t e.0)
+    (messages-stand at args ts e.1)
 messages-stand at [] (t ∷ ts) e = absurd e
 messages-stand at (a ∷ args) [] e = absurd e
 

@@ -1,5 +1,6 @@
 -- What an argument gives for a binder has the binder's sort and holds no loose bound variable.
-use Rattle.std.proofs.Common.{◌≡◌, refl, ap, ◌∙◌, List, [], ◌∷◌, length, Option, Some, None, Bool, true, false}
+use Rattle.std.proofs.Common.{◌≡◌, refl, ap, ◌∙◌, List, [], ◌∷◌, length, Option, Some, None, Bool}
+use Rattle.std.proofs.Common.{true, false}
 use Rattle.std.specs.Prelude.{option_map, if◌then◌else◌}
 use Rattle.sq_base.specs.declared.sort.Sort.{Sort}
 use Rattle.sq_base.specs.declared.sort.Sort.TheVariants.{Message, Boolean, Index, Timestamp}
@@ -11,13 +12,14 @@ use Rattle.sq_term.specs.Syntax.{TsTree, free, bound, init, pred, action}
 use Rattle.sq_term.proofs.BoolTests.{and_split, and_both}
 use Rattle.sq_typing.specs.Typing.{Signature, has_count_at, is_index, are_indices, is_timestamp}
 use Rattle.sq_subst.specs.Laws.{arg_closed}
-use Rattle.sq_sequent.specs.declared.step.ValArg.{ValArg}
-use Rattle.sq_sequent.specs.declared.step.ValArg.TheVariants as val_arg
+use Rattle.sq_step.specs.declared.step.ValArg.{ValArg}
+use Rattle.sq_step.specs.declared.step.ValArg.TheVariants as val_arg
 use Rattle.sq_sequent.specs.Places.{ts_at, idx_at}
 use Rattle.sq_sequent.specs.Rows.{IsValue}
 use Rattle.sq_sequent.specs.Site.{Site}
-use Rattle.sq_sequent.specs.Standing.{signature_at, time_where, index_where, time_in, index_in, value_in}
-use Rattle.sq_sequent.proofs.Opened.{is_value}
+use Rattle.sq_sequent.specs.Standing.{signature_at, time_where, index_where, time_in, index_in}
+use Rattle.sq_sequent.specs.Standing.{value_in}
+use Rattle.sq_formula.proofs.Opened.{is_value}
 
 no_value : {P : Type 0} → false ≡ true → P
 no_value e = absurd (let f : false ≡ true = e in cc)
@@ -62,7 +64,8 @@ index-value : (g : Signature) (o : Option Idx) (v : ArgTree)
 index-value g None v e = absurd (cc)
 index-value g (Some i) v e = go (is_index g [] i) refl e
   where
-    go : (b : Bool) → is_index g [] i ≡ b → option_map an_index (if b then Some i else None) ≡ Some v
+    go : (b : Bool) → is_index g [] i ≡ b → option_map an_index (if b then Some i else None)
+        ≡ Some v
         → is_value g Index v ≡ true
     go true q r = let z : v ≡ an_index i = cc in ap (is_value g Index) z ∙ q
     go false q r = absurd (cc)
@@ -72,7 +75,8 @@ time-value : (g : Signature) (o : Option TsTree) (v : ArgTree)
 time-value g None v e = absurd (cc)
 time-value g (Some t) v e = go (is_timestamp g [] t) refl e
   where
-    go : (b : Bool) → is_timestamp g [] t ≡ b → option_map a_time (if b then Some t else None) ≡ Some v
+    go : (b : Bool) → is_timestamp g [] t ≡ b → option_map a_time (if b then Some t else None)
+        ≡ Some v
         → is_value g Timestamp v ≡ true
     go true q r = let z : v ≡ a_time t = cc in ap (is_value g Timestamp) z ∙ q
     go false q r = absurd (cc)

@@ -6,7 +6,7 @@ use Rattle.sq_term.specs.Syntax.{TermTree}
 use Rattle.sq_system.specs.Sequents.{SequentTree}
 use Rattle.sq_system.specs.Sizes.{fits, all_fit}
 use Rattle.sq_system.specs.WellFormed.{is_well_formed}
-use Rattle.sq_sequent.specs.declared.step.Step.{Step}
+use Rattle.sq_step.specs.declared.step.Step.{Step}
 use Rattle.sq_sequent.specs.Site.{Site}
 use Rattle.sq_sequent.specs.Logic.{logic_row}
 use Rattle.sq_sequent.specs.Premises.{assuming}

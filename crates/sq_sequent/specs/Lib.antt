@@ -1,15 +1,14 @@
-pub mod Faults
-pub mod Shapes
 pub mod Site
+pub mod Sites
 pub mod Views
 pub mod Premises
 pub mod Places
-pub mod Statements
 pub mod Standing
 pub mod Sides
 pub mod Facts
 pub mod Uses
 pub mod Rewriting
+pub mod RewriteRow
 pub mod Logic
 pub mod Rows
 pub mod Laws

@@ -1,15 +1,15 @@
 -- The logic rows of the calculus: the premises that a step leaves of a sequent.
-use Rattle.std.specs.Prelude.{ℕ, suc, ◌==◌, nat_lt, length, Bool, true, false, if◌then◌else◌, ◌&&◌, List, [], ◌∷◌, map, Option, Some, None, Result, Ok, Err}
+use Rattle.std.specs.Prelude.{ℕ, ◌==◌, nat_lt, length, Bool, true, false, if◌then◌else◌, ◌&&◌}
+use Rattle.std.specs.Prelude.{List, [], ◌∷◌, map, Option, Some, None, Result, Ok, Err}
 use Rattle.std.specs.Cmp.Lexicographic.{pointwise}
 use Rattle.sq_base.specs.declared.sort.Sort.TheVariants.{Message, Boolean}
 use Rattle.sq_term.specs.Arguments.{ArgTree}
 use Rattle.sq_term.specs.declared.term.Side.TheVariants as side
-use Rattle.sq_term.specs.Formulas.{truth, falsity, negation, both, either, implies, equal, equivalent}
+use Rattle.sq_term.specs.Formulas.{truth, falsity, negation, both, either, implies, equal}
 use Rattle.sq_term.specs.Measure.{count_terms}
 use Rattle.sq_system.specs.Limits.{most_nodes}
-use Rattle.sq_term.specs.Builtins.{takes_boolean}
-use Rattle.sq_term.specs.Symbols.{Kind, same_kind}
-use Rattle.sq_term.specs.Syntax.{TermTree, fun, ts_eq, idx_eq, all, some, TermTrees, cons}
+use Rattle.sq_term.specs.Symbols.{same_kind}
+use Rattle.sq_term.specs.Syntax.{TermTree, fun, ts_eq, idx_eq, all, some}
 use Rattle.sq_term.specs.TreeEquality.{is_same_tree}
 use Rattle.sq_term.specs.TsEquality.{is_same_idx, is_same_ts_tree}
 use Rattle.sq_system.specs.declared.sequent.Sequent.{Sequent}
@@ -17,19 +17,20 @@ use Rattle.sq_system.specs.Sequents.{SequentTree, trace, local, equiv, sequent_t
 use Rattle.sq_system.specs.Sizes.{all_fit}
 use Rattle.sq_subst.specs.Room as room
 use Rattle.sq_subst.specs.Substitution.{opened}
-use Rattle.sq_sequent.specs.declared.fault.RuleFault.{RuleFault}
-use Rattle.sq_sequent.specs.declared.fault.RuleFault.TheVariants.{Shape, TooLarge}
-use Rattle.sq_sequent.specs.declared.step.Step.{Step}
-use Rattle.sq_sequent.specs.declared.step.Step.TheVariants as step
-use Rattle.sq_sequent.specs.declared.step.ValArg.{ValArg}
+use Rattle.sq_system.specs.declared.fault.RuleFault.{RuleFault}
+use Rattle.sq_system.specs.declared.fault.RuleFault.TheVariants.{Shape, TooLarge}
+use Rattle.sq_step.specs.declared.step.Step.{Step}
+use Rattle.sq_step.specs.declared.step.Step.TheVariants as step
+use Rattle.sq_step.specs.declared.step.ValArg.{ValArg}
 use Rattle.sq_sequent.specs.Site.{Site}
 use Rattle.sq_sequent.specs.Standing.{term_in, value_in}
 use Rattle.sq_sequent.specs.Sides.{on_side}
 use Rattle.sq_sequent.specs.Facts.{fact_row}
 use Rattle.sq_sequent.specs.Uses.{use_row}
-use Rattle.sq_sequent.specs.Rewriting.{rewriting_of, rew_row}
+use Rattle.sq_sequent.specs.RewriteRow.{rewriting_of, rew_row}
 use Rattle.sq_sequent.specs.Views.{hyp_of, goal_of, local_goal_of}
-use Rattle.sq_sequent.specs.Premises.{asking, assuming, with_hyps, with_variable, new_variable, without, pure_ones, pure_or_false}
+use Rattle.sq_sequent.specs.Premises.{asking, assuming, with_hyps, with_variable, new_variable}
+use Rattle.sq_sequent.specs.Premises.{without, pure_ones, pure_or_false, arguments_asked}
 
 abbrev pub sequent_trees : List Sequent → List SequentTree
 sequent_trees ss = map sequent_tree ss
@@ -85,11 +86,6 @@ abbrev pub refl_row : SequentTree → Option (List SequentTree)
 refl_row (trace vars hyps g) = closing_row (is_reflexive false g)
 refl_row (local side vars hyps g) = closing_row (is_reflexive true g)
 refl_row (equiv vars hyps known items) = None
-
--- arg: the goal of a local sequent is `f(us) = f(vs)`, with the same indices. Two messages are to be
--- equal, two Booleans equivalent.
-abbrev pub asked_alike : Bool → TermTree → TermTree → TermTree
-asked_alike boolean u v = if boolean then equivalent u v else equal u v
 
 module _ (s : SequentTree) where
   -- impi: the goal is `a => b`
@@ -167,16 +163,11 @@ module _ (s : SequentTree) where
   trans_row (Some (equal u v)) (Some w) = Some (asking s (equal u w) ∷ asking s (equal w v) ∷ [])
   trans_row _ _ = None
 
-  -- from argument k of function f on
-  abbrev pub arguments_asked : Kind → ℕ → TermTrees → TermTrees → List SequentTree
-  arguments_asked f k (cons u us) (cons v vs) =
-      asking s (asked_alike (takes_boolean f k) u v) ∷ arguments_asked f (suc k) us vs
-  arguments_asked f k us vs = []
-
+  -- arg: the goal of a local sequent is `f(us) = f(vs)`, with the same indices
   unfoldable pub applications_row : TermTree → TermTree → Option (List SequentTree)
   applications_row (fun f is us) (fun g js vs) =
       if same_kind f g && (pointwise is_same_idx is js && (count_terms us == count_terms vs))
-      then Some (arguments_asked f 0 us vs) else None
+      then Some (arguments_asked s f 0 us vs) else None
   applications_row t u = None
 
   unfoldable pub arg_row : Option TermTree → Option (List SequentTree)

@@ -1,19 +1,22 @@
 -- Nodes of a sequent's terms, and the arguments of steps.
-use Rattle.std.specs.Prelude.{ℕ, zero, suc, List, [], ◌∷◌, ◌++◌, map, Option, Some, None, Result, Ok, Err, slice_get}
+use Rattle.std.specs.Prelude.{ℕ, zero, suc, List, [], ◌∷◌, ◌++◌, map, Option, Some, None, Result}
+use Rattle.std.specs.Prelude.{Ok, Err, slice_get}
 use Rattle.sq_term.specs.declared.term.Idx.{Idx}
-use Rattle.sq_term.specs.Syntax.{TsTree, free, bound, init, pred, action, TermTree, name, fun, macro, schema, diff, le, ts_eq, idx_eq, happens, all, some, find, TermTrees, nil, cons}
+use Rattle.sq_term.specs.Syntax.{TsTree, free, bound, init, pred, action, TermTree, name, fun}
+use Rattle.sq_term.specs.Syntax.{macro, schema, diff, le, ts_eq, idx_eq, happens, all, some, find}
+use Rattle.sq_term.specs.Syntax.{TermTrees, nil, cons}
 use Rattle.sq_term.specs.View.{ts_tree, term_tree}
 use Rattle.sq_system.specs.Sequents.{Item, item, SequentTree}
 use Rattle.sq_sequent.specs.declared.places.Node.{Node as NodeOf}
 use Rattle.sq_sequent.specs.declared.places.Node.TheVariants as n
-use Rattle.sq_sequent.specs.declared.step.Place.{Place}
-use Rattle.sq_sequent.specs.declared.step.Place.TheVariants as place
-use Rattle.sq_sequent.specs.declared.step.TermArg.{TermArg}
-use Rattle.sq_sequent.specs.declared.step.TermArg.TheVariants as term_arg
-use Rattle.sq_sequent.specs.declared.step.TsArg.{TsArg}
-use Rattle.sq_sequent.specs.declared.step.TsArg.TheVariants as ts_arg
-use Rattle.sq_sequent.specs.declared.step.IdxArg.{IdxArg}
-use Rattle.sq_sequent.specs.declared.step.IdxArg.TheVariants as idx_arg
+use Rattle.sq_step.specs.declared.step.Place.{Place}
+use Rattle.sq_step.specs.declared.step.Place.TheVariants as place
+use Rattle.sq_step.specs.declared.step.TermArg.{TermArg}
+use Rattle.sq_step.specs.declared.step.TermArg.TheVariants as term_arg
+use Rattle.sq_step.specs.declared.step.TsArg.{TsArg}
+use Rattle.sq_step.specs.declared.step.TsArg.TheVariants as ts_arg
+use Rattle.sq_step.specs.declared.step.IdxArg.{IdxArg}
+use Rattle.sq_step.specs.declared.step.IdxArg.TheVariants as idx_arg
 use Rattle.sq_sequent.specs.Views.{goal_of, hyp_of, items_of}
 
 pub data Node : Type 0 where
@@ -46,7 +49,9 @@ abbrev mutual
   inner_nodes (happens t) = ts_nodes t
   inner_nodes (all s t) = term_node t ∷ inner_nodes t
   inner_nodes (some s t) = term_node t ∷ inner_nodes t
-  inner_nodes (find c t a b) = (term_node t ∷ inner_nodes t) ++ ((term_node a ∷ inner_nodes a) ++ (term_node b ∷ inner_nodes b))
+  inner_nodes (find c t a b) =
+      (term_node t ∷ inner_nodes t) ++
+      ((term_node a ∷ inner_nodes a) ++ (term_node b ∷ inner_nodes b))
 
   pub all_nodes : TermTrees → List Node
   all_nodes nil = []

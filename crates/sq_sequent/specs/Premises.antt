@@ -1,13 +1,16 @@
 -- The premises of rows, made from the sequent that they are to show.
-use Rattle.std.specs.Prelude.{ℕ, zero, suc, length, List, [], ◌∷◌, ◌++◌, if◌then◌else◌}
+use Rattle.std.specs.Prelude.{ℕ, zero, suc, length, List, [], ◌∷◌, ◌++◌, Bool, if◌then◌else◌}
 use Rattle.sq_base.specs.declared.sort.Sort.{Sort}
 use Rattle.sq_base.specs.declared.sort.Sort.TheVariants as sort
 use Rattle.sq_term.specs.declared.term.Idx.TheVariants as idx
 use Rattle.sq_term.specs.Arguments.{ArgTree, an_index, a_time}
-use Rattle.sq_term.specs.Formulas.{falsity}
+use Rattle.sq_term.specs.Builtins.{takes_boolean}
+use Rattle.sq_term.specs.Formulas.{falsity, equal, equivalent}
 use Rattle.sq_term.specs.Pure.{is_pure}
-use Rattle.sq_term.specs.Syntax.{free, TermTree}
-use Rattle.sq_system.specs.Sequents.{Body, trace_body, local_body, equiv_body, SequentTree, sequent, vars_of}
+use Rattle.sq_term.specs.Symbols.{Kind}
+use Rattle.sq_term.specs.Syntax.{free, TermTree, TermTrees, cons}
+use Rattle.sq_system.specs.Sequents.{Body, trace_body, local_body, equiv_body, SequentTree, sequent}
+use Rattle.sq_system.specs.Sequents.{vars_of}
 
 -- `g` in place of what a sequent asks. Of an equivalence it is asked as a formula on the trace.
 abbrev pub asked : Body → TermTree → Body
@@ -53,3 +56,13 @@ pure_ones (t ∷ ts) = if is_pure t then t ∷ pure_ones ts else pure_ones ts
 
 abbrev pub pure_or_false : TermTree → TermTree
 pure_or_false t = if is_pure t then t else falsity
+
+-- what is asked of two arguments: that Booleans are equivalent, that messages are equal
+abbrev pub asked_alike : Bool → TermTree → TermTree → TermTree
+asked_alike boolean u v = if boolean then equivalent u v else equal u v
+
+-- each argument of the one list alike that of the other, from argument k of function f on
+abbrev pub arguments_asked : SequentTree → Kind → ℕ → TermTrees → TermTrees → List SequentTree
+arguments_asked s f k (cons u us) (cons v vs) =
+    asking s (asked_alike (takes_boolean f k) u v) ∷ arguments_asked s f (suc k) us vs
+arguments_asked s f k us vs = []

@@ -1,37 +1,39 @@
 -- The logic rows of the calculus: which premises a step leaves of a sequent.
-use Rattle.std.specs.Prelude.{◌≡◌, ◌≢◌, ◌<◌, ℕ, suc, length, true, List, [], ◌∷◌, map, Some, slice_get, slice_set}
+use Rattle.std.specs.Prelude.{◌≡◌, ◌≢◌, ◌<◌, ℕ, length, true, List, [], ◌∷◌, map, Some}
+use Rattle.std.specs.Prelude.{slice_get, slice_set}
 use Rattle.sq_base.specs.declared.sort.Sort.{Sort}
 use Rattle.sq_base.specs.declared.sort.Sort.TheVariants.{Message, Boolean}
-use Rattle.sq_term.specs.declared.signature.FunDecl.{FunDecl}
 use Rattle.sq_term.specs.declared.term.Idx.{Idx}
 use Rattle.sq_term.specs.declared.term.Side.{Side}
 use Rattle.sq_term.specs.declared.term.Side.TheVariants as side
 use Rattle.sq_term.specs.Arguments.{ArgTree}
-use Rattle.sq_term.specs.Formulas.{unary, binary, ternary, truth, falsity, negation, both, either, implies, equal, equivalent, conditional, pair, first, second, of_bool}
+use Rattle.sq_term.specs.Formulas.{truth, falsity, negation, both, either}
+use Rattle.sq_term.specs.Formulas.{implies, equal, equivalent}
 use Rattle.sq_term.specs.Measure.{count_terms}
-use Rattle.sq_term.specs.Signatures.{is_signature}
-use Rattle.sq_term.specs.Symbols.{Kind, declared}
-use Rattle.sq_term.specs.Syntax.{TsTree, TermTree, fun, ts_eq, idx_eq, all, some, find, TermTrees}
+use Rattle.sq_term.specs.Symbols.{Kind}
+use Rattle.sq_term.specs.Syntax.{TsTree, TermTree, fun, ts_eq, idx_eq, all, some, TermTrees}
 use Rattle.sq_subst.specs.Substitution.{opened}
-use Rattle.sq_system.specs.Sequents.{Item, Body, trace_body, local_body, equiv_body, SequentTree, trace, equiv, vars_of, hyps_of, body_of}
+use Rattle.sq_system.specs.Sequents.{Item, Body, trace_body, local_body, equiv_body, SequentTree}
+use Rattle.sq_system.specs.Sequents.{trace, equiv, vars_of, hyps_of, body_of}
+use Rattle.sq_system.specs.Sizes.{all_fit}
 use Rattle.sq_system.specs.Statements.{StmtTree}
-use Rattle.sq_system.specs.Usable.{usable}
-use Rattle.sq_sequent.specs.declared.step.Dir.{Dir}
-use Rattle.sq_sequent.specs.declared.step.Step.{Step}
-use Rattle.sq_sequent.specs.declared.step.Step.TheVariants as step
-use Rattle.sq_sequent.specs.declared.step.Target.{Target}
-use Rattle.sq_sequent.specs.declared.step.Target.TheVariants as target
-use Rattle.sq_sequent.specs.declared.step.TermArg.{TermArg}
-use Rattle.sq_sequent.specs.declared.step.ValArg.{ValArg}
+use Rattle.sq_system.specs.Usable.{usable, states_a_formula}
+use Rattle.sq_formula.specs.Facts.{HasFact}
+use Rattle.sq_step.specs.declared.step.Dir.{Dir}
+use Rattle.sq_step.specs.declared.step.Step.{Step}
+use Rattle.sq_step.specs.declared.step.Step.TheVariants as step
+use Rattle.sq_step.specs.declared.step.Target.{Target}
+use Rattle.sq_step.specs.declared.step.Target.TheVariants as target
+use Rattle.sq_step.specs.declared.step.TermArg.{TermArg}
+use Rattle.sq_step.specs.declared.step.ValArg.{ValArg}
 use Rattle.sq_sequent.specs.Site.{Site}
 use Rattle.sq_sequent.specs.Views.{goal_of, local_goal_of, hyp_of}
 use Rattle.sq_sequent.specs.Standing.{term_in, value_in}
-use Rattle.sq_sequent.specs.Premises.{asking, assuming, with_hyps, with_variable, new_variable, without, pure_ones, pure_or_false}
-use Rattle.sq_sequent.specs.Sides.{on_side}
-use Rattle.sq_sequent.specs.Facts.{conditional_fact, boolean_fact, find_fact}
-use Rattle.sq_sequent.specs.Uses.{states_a_formula, instance_on}
-use Rattle.sq_sequent.specs.Rewriting.{Rewriting, term_by, time_by, index_by, turned, rewritten, item_rewritten}
-use Rattle.sq_sequent.specs.Logic.{arguments_asked}
+use Rattle.sq_sequent.specs.Premises.{asking, assuming, with_hyps, with_variable, new_variable}
+use Rattle.sq_sequent.specs.Premises.{without, pure_ones, pure_or_false, arguments_asked}
+use Rattle.sq_sequent.specs.Sides.{on_side, instance_on}
+use Rattle.sq_sequent.specs.Rewriting.{Rewriting, term_by, time_by, index_by, turned, rewritten}
+use Rattle.sq_sequent.specs.Rewriting.{item_rewritten}
 
 -- ---- what a row asks of the sequent
 
@@ -42,7 +44,8 @@ Asks at g = goal_of at.sequent ≡ Some g
 abbrev pub AsksLocally : Site → TermTree → Type 0
 AsksLocally at g = local_goal_of at.sequent ≡ Some g
 
--- the goal is an equation of one message, timestamp or index. No message equation is a trace formula.
+-- the goal is an equation of one message, timestamp or index. No message equation is a trace
+-- formula.
 pub data AsksItself (at : Site) : Type 0 where
   of_message : (u : TermTree) → AsksLocally at (equal u u) → AsksItself at
   of_time : (t : TsTree) → Asks at (ts_eq t t) → AsksItself at
@@ -85,7 +88,8 @@ pub record Offers (at : Site) (k n : ℕ) (F : TermTree) : Type 0 where
   pub count : n ≡ length statement.schemas
   pub says : goal_of statement.start ≡ Some F
 
--- what is asked of the trace alone: the goal of a Local sequent where it is a trace formula, else false
+-- what is asked of the trace alone: the goal of a Local sequent where it is a trace formula, else
+-- false
 abbrev pub AsksOfTrace : Body → TermTree → Type 0
 AsksOfTrace (trace_body g) c = ⊥
 AsksOfTrace (local_body s g) c = c ≡ pure_or_false g
@@ -98,35 +102,18 @@ pub data Equates (at : Site) : TermTree → Rewriting → Type 0 where
   indices : (i j : Idx) → Equates at (idx_eq i j) (index_by i j)
   formulas : (s : Side) (a b : TermTree) → IsLocal at s → Equates at (equivalent a b) (term_by a b)
 
--- the goal, another hypothesis than h, or in an equivalence all items, with each occurrence replaced
+-- the goal, another hypothesis than h, or in an equivalence all items, with each occurrence
+-- replaced
 pub data Rewritten (at : Site) (h : ℕ) (r : Rewriting) : Target → SequentTree → Type 0 where
   in_goal : (g : TermTree) → Asks at g
       → Rewritten at h r target.Goal (asking at.sequent (rewritten r g))
   in_hypothesis : (k : ℕ) (f : TermTree) → k ≢ h → Assumes at k f
       → Rewritten at h r (target.Hyp k)
       (with_hyps (slice_set (hyps_of at.sequent) k (rewritten r f)) at.sequent)
-  in_items : (vars : List Sort) (hyps : List TermTree) (known : List (List Item)) (items : List Item)
+  in_items : (vars : List Sort) (hyps : List TermTree) (known : List (List Item))
+      (items : List Item)
       → at.sequent ≡ equiv vars hyps known items
       → Rewritten at h r target.Items (equiv vars hyps known (map (item_rewritten r) items))
-
--- checksign(m,sign(m,k),pk(k)), where sign is declared function f
-abbrev pub signed : ℕ → TermTree → TermTree → TermTree
-signed f m k =
-    ternary (declared (suc f)) m (binary (declared f) m k) (unary (declared (suc (suc f))) k)
-
--- what the calculus knows of a term of this sort by its shape
-pub data HasFact (funs : List FunDecl) : Sort → TermTree → TermTree → Type 0 where
-  of_conditional : (b u v : TermTree)
-      → HasFact funs Message (conditional b u v) (conditional_fact (conditional b u v) b u v)
-  of_first : (u v : TermTree)
-      → HasFact funs Message (first (pair u v)) (equal (first (pair u v)) u)
-  of_second : (u v : TermTree)
-      → HasFact funs Message (second (pair u v)) (equal (second (pair u v)) v)
-  of_boolean : (b : TermTree) → HasFact funs Message (of_bool b) (boolean_fact (of_bool b) b)
-  of_signature : (f : ℕ) (m k : TermTree) → is_signature funs f ≡ true
-      → HasFact funs Boolean (signed f m k) (signed f m k)
-  of_find : (c : ℕ) (F u v : TermTree)
-      → HasFact funs Message (find c F u v) (find_fact (find c F u v) c F u v)
 
 -- ---- the rows
 
@@ -197,3 +184,8 @@ pub data Row (at : Site) : Step → List SequentTree → Type 0 where
   -- what is known of a term, in a Local sequent
   fact : (arg : TermArg) (s : Side) (x : Sort) (t F : TermTree) → IsLocal at s → IsTerm at x arg t
       → HasFact at.env.funs x t F → Row at (step.Fact arg) (assuming at.sequent F ∷ [])
+
+-- the step replaces the sequent by these premises: those of its row, which are within the limits
+pub record Replaces (at : Site) (step : Step) (premises : List SequentTree) : Type 0 where
+  pub by_row : Row at step premises
+  pub fit : all_fit premises ≡ true

@@ -9,12 +9,12 @@ use Rattle.sq_typing.specs.Typing.{Signature, is_index, is_timestamp}
 use Rattle.sq_typing.specs.Standing as typing
 use Rattle.sq_system.specs.Sequents.{vars_of, body_of}
 use Rattle.sq_system.specs.Usable.{statement_at, system_of}
-use Rattle.sq_system.specs.WellFormed.{signature_of, subject_of}
-use Rattle.sq_sequent.specs.declared.step.IdxArg.{IdxArg}
-use Rattle.sq_sequent.specs.declared.step.TermArg.{TermArg}
-use Rattle.sq_sequent.specs.declared.step.TsArg.{TsArg}
-use Rattle.sq_sequent.specs.declared.step.ValArg.{ValArg}
-use Rattle.sq_sequent.specs.declared.step.ValArg.TheVariants as val_arg
+use Rattle.sq_system.specs.Scopes.{signature_of, subject_of}
+use Rattle.sq_step.specs.declared.step.IdxArg.{IdxArg}
+use Rattle.sq_step.specs.declared.step.TermArg.{TermArg}
+use Rattle.sq_step.specs.declared.step.TsArg.{TsArg}
+use Rattle.sq_step.specs.declared.step.ValArg.{ValArg}
+use Rattle.sq_step.specs.declared.step.ValArg.TheVariants as val_arg
 use Rattle.sq_sequent.specs.Site.{Site}
 use Rattle.sq_sequent.specs.Places.{term_at, ts_at, idx_at}
 

@@ -1,26 +1,18 @@
 -- The row that uses an earlier axiom or lemma.
-use Rattle.std.specs.Prelude.{ℕ, ◌==◌, Bool, true, false, if◌then◌else◌, ◌&&◌, List, [], ◌∷◌, length, Option, Some, None, slice_get}
+use Rattle.std.specs.Prelude.{ℕ, ◌==◌, if◌then◌else◌, ◌&&◌, List, [], ◌∷◌}
+use Rattle.std.specs.Prelude.{length, Option, Some, None, slice_get}
 use Rattle.sq_base.specs.declared.sort.Sort.TheVariants.{Message}
 use Rattle.sq_term.specs.declared.term.Side.{Side}
 use Rattle.sq_term.specs.Syntax.{TermTree}
-use Rattle.sq_system.specs.declared.env.StmtKind.{StmtKind}
-use Rattle.sq_system.specs.declared.env.StmtKind.TheVariants.{Axiom, Lemma, Equiv}
 use Rattle.sq_system.specs.Sequents.{Body, trace_body, local_body, equiv_body, SequentTree, body_of}
 use Rattle.sq_system.specs.Statements.{StmtTree}
-use Rattle.sq_system.specs.Usable.{usable}
-use Rattle.sq_subst.specs.Projection.{projected}
-use Rattle.sq_subst.specs.Substitution.{instance_of}
-use Rattle.sq_sequent.specs.declared.step.TermArg.{TermArg}
+use Rattle.sq_system.specs.Usable.{usable, states_a_formula}
+use Rattle.sq_step.specs.declared.step.TermArg.{TermArg}
 use Rattle.sq_sequent.specs.Site.{Site}
 use Rattle.sq_sequent.specs.Views.{goal_of}
 use Rattle.sq_sequent.specs.Premises.{assuming}
+use Rattle.sq_sequent.specs.Sides.{instance_on}
 use Rattle.sq_sequent.specs.Standing.{term_in}
-
--- an axiom or a lemma
-abbrev pub states_a_formula : StmtKind → Bool
-states_a_formula Axiom = true
-states_a_formula Lemma = true
-states_a_formula Equiv = false
 
 -- the formula of statement k, where the goal may use it and it has so many schema variables
 abbrev pub offered_by : Site → ℕ → ℕ → Option StmtTree → Option TermTree
@@ -42,12 +34,8 @@ abbrev pub messages_in : Site → List TermArg → Option (List TermTree)
 messages_in at [] = Some []
 messages_in at (w ∷ ws) = with_first (term_in at Message w) (messages_in at ws)
 
--- What the formula says on a side of these messages. They are put in after the side is taken, since
--- they are of that side already.
-abbrev pub instance_on : Side → List TermTree → TermTree → TermTree
-instance_on side ms F = instance_of [] ms (projected side F)
-
-abbrev pub used_with : SequentTree → Side → Option TermTree → Option (List TermTree) → Option (List SequentTree)
+abbrev pub used_with : SequentTree → Side → Option TermTree → Option (List TermTree)
+    → Option (List SequentTree)
 used_with s side None ms = None
 used_with s side (Some F) None = None
 used_with s side (Some F) (Some ms) = Some (assuming s (instance_on side ms F) ∷ [])

@@ -1,7 +1,8 @@
 -- What rows ask of a sequent.
 use Rattle.std.specs.Prelude.{ℕ, List, [], Option, Some, None, slice_get}
 use Rattle.sq_term.specs.Syntax.{TermTree}
-use Rattle.sq_system.specs.Sequents.{Item, Body, trace_body, local_body, equiv_body, SequentTree, hyps_of, body_of}
+use Rattle.sq_system.specs.Sequents.{Item, Body, trace_body, local_body, equiv_body, SequentTree}
+use Rattle.sq_system.specs.Sequents.{hyps_of, body_of}
 
 -- the items; a sequent with a goal has none
 abbrev pub items_in : Body → List Item

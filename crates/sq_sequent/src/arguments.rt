@@ -6,19 +6,19 @@ ghost use Rattle.sq_term.specs.View.{term_tree, term_trees};
 ghost use Rattle.sq_system.specs.Sequents.{sequent_tree};
 ghost use Rattle.sq_sequent.specs.Premises as premises;
 ghost use Rattle.sq_sequent.specs.Logic as spec;
-ghost use Rattle.sq_sequent.specs.Logic.{sequent_trees, judged, asked_alike};
+ghost use Rattle.sq_sequent.specs.Logic.{sequent_trees, judged};
+ghost use Rattle.sq_sequent.specs.Premises.{asked_alike};
 
-use crate::fault::RuleFault;
-use crate::limits::judge;
-use crate::premises::asking;
+use crate::premises::{asking, judge};
 use sq_base::{NoMemory, Seq};
-use sq_system::Sequent;
+use sq_system::{RuleFault, Sequent};
 use sq_term::{Idx, Term, copy, formulas};
 use sq_typing::takes_boolean;
 use std::alloc::Global;
 
 fn alike(alloc: Global, boolean: bool, u: &Term, v: &Term) -> Result<Term, NoMemory>
-    ensures { IfOk result (λ t. term_tree t ≡ asked_alike boolean (term_tree u.now) (term_tree v.now)) }
+    ensures { IfOk result (λ t. term_tree t
+        ≡ asked_alike boolean (term_tree u.now) (term_tree v.now)) }
 {
     let u = copy(alloc, u)?;
     let v = copy(alloc, v)?;
@@ -37,7 +37,8 @@ fn asking_alike(
     v: &Term,
 ) -> Result<Sequent, NoMemory>
     ensures { IfOk result
-        (λ p. sequent_tree p ≡ premises.asking (sequent_tree s.now) (asked_alike boolean (term_tree u.now) (term_tree v.now))) }
+        (λ p. sequent_tree p ≡ premises.asking (sequent_tree s.now)
+        (asked_alike boolean (term_tree u.now) (term_tree v.now))) }
 {
     let asked = alike(alloc, boolean, u, v)?;
     asking(alloc, s, asked)
@@ -53,7 +54,8 @@ fn arguments_asked(
 ) -> Result<Seq<Sequent>, NoMemory>
     requires { length us.now ≡ length vs.now }
     ensures { IfOk result
-        (λ ps. sequent_trees ps ≡ spec.arguments_asked (sequent_tree s.now) (kind_of function) 0 (term_trees us.now) (term_trees vs.now)) }
+        (λ ps. sequent_trees ps ≡ premises.arguments_asked (sequent_tree s.now)
+        (kind_of function) 0 (term_trees us.now) (term_trees vs.now)) }
 {
     let mut premises = Seq::new(alloc);
     for k in 0..us.len() {
@@ -77,7 +79,8 @@ pub fn alike_arguments(
     right: &Term,
 ) -> Result<Seq<Sequent>, RuleFault>
     ensures { Gives RuleFault.NoMemory sequent_trees result
-        (judged (spec.applications_row (sequent_tree s.now) (term_tree left.now) (term_tree right.now))) }
+        (judged (spec.applications_row (sequent_tree s.now) (term_tree left.now)
+        (term_tree right.now))) }
 {
     match left {
         Term::Fun(f, is, us) => match right {

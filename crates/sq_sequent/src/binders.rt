@@ -8,12 +8,10 @@ ghost use Rattle.sq_subst.specs.Substitution.{opened};
 ghost use Rattle.sq_sequent.specs.Premises as spec;
 ghost use Rattle.sq_sequent.specs.Logic.{held};
 
-use crate::fault::RuleFault;
-use crate::limits::MOST_NODES;
 use crate::views::vars_of;
 use sq_base::{NoMemory, Sort};
 use sq_subst::open_with;
-use sq_system::Sequent;
+use sq_system::{MOST_NODES, RuleFault, Sequent};
 use sq_term::{Arg, Idx, Term, Ts};
 use std::alloc::Global;
 
@@ -94,7 +92,8 @@ pub fn open_new(alloc: Global, s: &Sequent, sort: Sort, body: &Term) -> Result<T
 
 /// The body of a quantifier with this value, or TooLarge where no sequent may hold it.
 pub fn open_at(alloc: Global, value: &Arg, body: &Term) -> Result<Term, RuleFault>
-    ensures { Gives RuleFault.NoMemory term_tree result (held (opened (arg_tree value.now) (term_tree body.now))) }
+    ensures { Gives RuleFault.NoMemory term_tree result
+        (held (opened (arg_tree value.now) (term_tree body.now))) }
 {
     Ok(open_with(alloc, body, value, MOST_NODES)?)
 }

@@ -4,10 +4,11 @@ ghost use Rattle.std.specs.Option.{option_copied};
 ghost use Rattle.sq_term.specs.View.{ts_tree, term_tree, term_trees};
 ghost use Rattle.sq_system.specs.Sequents.{sequent_tree};
 ghost use Rattle.sq_sequent.specs.Places as spec;
-ghost use Rattle.sq_sequent.specs.Places.{reached, reached_by, node_tree, idx_node, inner_times, ts_nodes, inner_nodes, all_nodes, nodes};
+ghost use Rattle.sq_sequent.specs.Places.{reached, reached_by, node_tree, idx_node, inner_times};
+ghost use Rattle.sq_sequent.specs.Places.{ts_nodes, inner_nodes, all_nodes, nodes};
 
-use crate::step::{IdxArg, Place, TermArg, TsArg};
 use crate::views::{goal_of, hyp_of, items_of};
+use sq_step::{IdxArg, Place, TermArg, TsArg};
 use sq_system::Sequent;
 use sq_term::{Idx, Term, Ts};
 use sqlite_items::{Boxed, at};
@@ -146,7 +147,8 @@ fn term_node(t: &Term, k: usize) -> Result<Node<'_>, usize>
 }
 
 fn at_place(s: &Sequent, place: Place) -> Option<&Term>
-    ensures { option_map term_tree (option_copied result) ≡ spec.at_place (sequent_tree s.now) place }
+    ensures { option_map term_tree (option_copied result)
+        ≡ spec.at_place (sequent_tree s.now) place }
 {
     match place {
         Place::Goal => goal_of(s),
@@ -164,7 +166,8 @@ fn at_place(s: &Sequent, place: Place) -> Option<&Term>
 
 #[tactic(auto, using(crate::proofs::Walks::list_rules))]
 fn node_at(s: &Sequent, place: Place, k: u32) -> Option<Node<'_>>
-    ensures { option_map node_tree result ≡ spec.node_in (spec.at_place (sequent_tree s.now) place) k }
+    ensures { option_map node_tree result
+        ≡ spec.node_in (spec.at_place (sequent_tree s.now) place) k }
 {
     match at_place(s, place) {
         Some(t) => match term_node(t, k as usize) {
@@ -176,7 +179,8 @@ fn node_at(s: &Sequent, place: Place, k: u32) -> Option<Node<'_>>
 }
 
 fn as_term<'a>(node: Node<'a>) -> Option<&'a Term>
-    ensures { option_map term_tree (option_copied result) ≡ spec.as_term (Some (node_tree node.entry)) }
+    ensures { option_map term_tree (option_copied result)
+        ≡ spec.as_term (Some (node_tree node.entry)) }
 {
     match node {
         Node::Term(t) => Some(t),
@@ -208,7 +212,8 @@ fn as_index(node: Node) -> Option<Idx>
 /// The term that the argument names, where it names one.
 #[tactic(auto, unfolding(crate::specs::Places::term_at))]
 pub fn term_at<'a>(s: &'a Sequent, arg: &'a TermArg) -> Option<&'a Term>
-    ensures { option_map term_tree (option_copied result) ≡ spec.term_at (sequent_tree s.now) arg.now }
+    ensures { option_map term_tree (option_copied result)
+        ≡ spec.term_at (sequent_tree s.now) arg.now }
 {
     match arg {
         TermArg::At(place, k) => match node_at(s, *place, *k) {

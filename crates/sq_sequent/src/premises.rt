@@ -7,12 +7,23 @@ ghost use Rattle.sq_sequent.specs.Premises as spec;
 ghost use Rattle.sq_sequent.specs.Premises.{without};
 ghost use Rattle.sq_sequent.specs.Logic.{sequent_trees, within_limits};
 
-use crate::fault::RuleFault;
-use crate::limits::judge;
 use sq_base::{NoMemory, Seq, Sort};
-use sq_system::{Both, Sequent};
+use sq_system::{Both, RuleFault, Sequent, all_fit};
 use sq_term::{Term, copy, formulas, is_pure};
 use std::alloc::Global;
+
+/// The premises, or TooLarge where one of them does not fit.
+#[tactic(auto, unfolding(crate::specs::Logic::within_limits))]
+pub fn judge(premises: Seq<Sequent>) -> Result<Seq<Sequent>, RuleFault>
+    ensures { Gives RuleFault.NoMemory sequent_trees result
+        (within_limits (sequent_trees premises)) }
+{
+    if all_fit(premises.as_slice()) {
+        Ok(premises)
+    } else {
+        Err(RuleFault::TooLarge)
+    }
+}
 
 /// Equal sorts, in their order.
 pub fn copy_sorts(alloc: Global, sorts: &Seq<Sort>) -> Result<Seq<Sort>, NoMemory>
@@ -101,7 +112,8 @@ pub fn copy_sequent(alloc: Global, s: &Sequent) -> Result<Sequent, NoMemory>
 /// The sequent's hypotheses with this goal. Of an equivalence it is asked as a Trace sequent.
 #[tactic(auto, unfolding(crate::specs::Premises::asking))]
 pub fn asking(alloc: Global, s: &Sequent, goal: Term) -> Result<Sequent, NoMemory>
-    ensures { IfOk result (λ p. sequent_tree p ≡ spec.asking (sequent_tree s.now) (term_tree goal)) }
+    ensures { IfOk result (λ p. sequent_tree p
+        ≡ spec.asking (sequent_tree s.now) (term_tree goal)) }
 {
     match s {
         Sequent::Trace { vars, hyps, .. } | Sequent::Equiv { vars, hyps, .. } => Ok(
@@ -173,7 +185,8 @@ pub fn assuming(s: Sequent, hyp: Term) -> Result<Sequent, NoMemory>
 /// The sequent with these hypotheses.
 #[tactic(auto, unfolding(crate::specs::Premises::with_hyps))]
 pub fn with_hyps(alloc: Global, s: &Sequent, hyps: Seq<Term>) -> Result<Sequent, NoMemory>
-    ensures { IfOk result (λ p. sequent_tree p ≡ spec.with_hyps (map term_tree hyps) (sequent_tree s.now)) }
+    ensures { IfOk result (λ p. sequent_tree p
+        ≡ spec.with_hyps (map term_tree hyps) (sequent_tree s.now)) }
 {
     match s {
         Sequent::Trace { vars, goal, .. } => Ok(Sequent::Trace {
@@ -249,7 +262,8 @@ pub fn about_the_trace(
     goal: Term,
 ) -> Result<Sequent, NoMemory>
     ensures { IfOk result
-        (λ p. sequent_tree p ≡ trace vars.now (spec.pure_ones (map term_tree hyps.now)) (term_tree goal)) }
+        (λ p. sequent_tree p ≡ trace vars.now (spec.pure_ones (map term_tree hyps.now))
+        (term_tree goal)) }
 {
     let vars = copy_sorts(alloc, vars)?;
     let hyps = pure_ones(alloc, hyps)?;
@@ -258,7 +272,8 @@ pub fn about_the_trace(
 
 /// The one premise, or TooLarge.
 pub fn one_premise(alloc: Global, premise: Sequent) -> Result<Seq<Sequent>, RuleFault>
-    ensures { Gives RuleFault.NoMemory sequent_trees result (within_limits (sequent_tree premise ∷ [])) }
+    ensures { Gives RuleFault.NoMemory sequent_trees result
+        (within_limits (sequent_tree premise ∷ [])) }
 {
     let mut premises = Seq::new(alloc);
     premises.push(premise)?;
@@ -271,7 +286,8 @@ pub fn two_premises(
     first: Sequent,
     second: Sequent,
 ) -> Result<Seq<Sequent>, RuleFault>
-    ensures { Gives RuleFault.NoMemory sequent_trees result (within_limits (sequent_tree first ∷ sequent_tree second ∷ [])) }
+    ensures { Gives RuleFault.NoMemory sequent_trees result
+        (within_limits (sequent_tree first ∷ sequent_tree second ∷ [])) }
 {
     let mut premises = Seq::new(alloc);
     premises.push(first)?;

@@ -1,5 +1,6 @@
 // What a hypothesis rewrites, and what it makes of terms.
-ghost use Rattle.std.specs.Prelude.{◌≡◌, ◌<◌, length, IfOk, MatchResult, map, option_map, option_copied, slice_set};
+ghost use Rattle.std.specs.Prelude.{◌≡◌, ◌<◌, length, IfOk, MatchResult, map, option_map};
+ghost use Rattle.std.specs.Prelude.{option_copied, slice_set};
 ghost use Rattle.sq_base.specs.Gives.{Gives};
 ghost use Rattle.sq_term.specs.Formulas.{both};
 ghost use Rattle.sq_system.specs.Limits.{most_nodes};
@@ -9,21 +10,20 @@ ghost use Rattle.sq_subst.specs.Room.{within};
 ghost use Rattle.sq_system.specs.Sequents.{item_of, sequent_tree, equiv};
 ghost use Rattle.sq_system.specs.Sequents as sequents;
 ghost use Rattle.sq_sequent.specs.Premises as premises;
-ghost use Rattle.sq_sequent.specs.Rewriting as spec;
-ghost use Rattle.sq_sequent.specs.Rewriting.{rewriting_tree, rewritten, item_rewritten, item_fits, items_fit};
-ghost use Rattle.sq_sequent.specs.Sides.{IsPastLimits};
+ghost use Rattle.sq_sequent.specs.RewriteRow as spec;
+ghost use Rattle.sq_sequent.specs.Rewriting as rewriting;
+ghost use Rattle.sq_sequent.specs.Rewriting.{rewritten, item_rewritten};
+ghost use Rattle.sq_sequent.specs.RewriteRow.{rewriting_tree, item_fits, items_fit};
+ghost use Rattle.sq_formula.specs.Refusals.{IsPastLimits};
 ghost use Rattle.sq_sequent.specs.Logic.{held};
 
-use crate::equality::is_same;
-use crate::fault::RuleFault;
-use crate::limits::MOST_NODES;
 use crate::premises::{copy_known, copy_sorts, copy_terms, push_copies, with_hyps};
-use crate::shapes::{Shape, shape_of};
-use crate::step::Dir;
 use crate::views::hyps_of;
 use sq_base::{NoMemory, Seq, Sort};
+use sq_formula::{Shape, is_same, shape_of};
+use sq_step::Dir;
 use sq_subst::{SizeFault, replace_idx, replace_term, replace_ts};
-use sq_system::{Both, Sequent};
+use sq_system::{Both, MOST_NODES, RuleFault, Sequent};
 use sq_term::{Idx, Term, Ts};
 use std::alloc::Global;
 
@@ -79,7 +79,8 @@ fn by_equivalence(t: &Term) -> Option<Rewriting<'_>>
 }
 
 fn read_in<'a>(s: &Sequent, t: &'a Term) -> Option<Rewriting<'a>>
-    ensures { option_map rewriting_tree result ≡ spec.read_in (sequent_tree s.now) (term_tree t.now) }
+    ensures { option_map rewriting_tree result
+        ≡ spec.read_in (sequent_tree s.now) (term_tree t.now) }
 {
     match by_equation(t) {
         Some(by) => Some(by),
@@ -91,7 +92,7 @@ fn read_in<'a>(s: &Sequent, t: &'a Term) -> Option<Rewriting<'a>>
 }
 
 fn turned(dir: Dir, by: Rewriting) -> Rewriting
-    ensures { rewriting_tree result ≡ spec.turned dir (rewriting_tree by.entry) }
+    ensures { rewriting_tree result ≡ rewriting.turned dir (rewriting_tree by.entry) }
 {
     match dir {
         Dir::Forward => by,
@@ -104,10 +105,11 @@ fn turned(dir: Dir, by: Rewriting) -> Rewriting
 }
 
 /// What an equation rewrites in this direction, and in a Local sequent an equivalence.
-#[tactic(auto, unfolding(crate::specs::Rewriting::rewriting_of))]
+#[tactic(auto, unfolding(crate::specs::RewriteRow::rewriting_of))]
 pub fn rewriting_in<'a>(s: &Sequent, dir: Dir, t: Option<&'a Term>) -> Option<Rewriting<'a>>
     ensures { option_map rewriting_tree result
-        ≡ spec.rewriting_of (sequent_tree s.now) dir (option_map term_tree (option_copied t.entry)) }
+        ≡ spec.rewriting_of (sequent_tree s.now) dir
+        (option_map term_tree (option_copied t.entry)) }
 {
     match t {
         Some(t) => match read_in(s, t) {
@@ -119,7 +121,8 @@ pub fn rewriting_in<'a>(s: &Sequent, dir: Dir, t: Option<&'a Term>) -> Option<Re
 }
 
 fn replaced(alloc: Global, by: &Rewriting, t: &Term) -> Result<Term, SizeFault>
-    ensures { Gives size_fault.NoMemory term_tree result (within most_nodes (rewritten (rewriting_tree by.now) (term_tree t.now))) }
+    ensures { Gives size_fault.NoMemory term_tree result
+        (within most_nodes (rewritten (rewriting_tree by.now) (term_tree t.now))) }
 {
     match by {
         Rewriting::Terms(from, to) => replace_term(alloc, t, from, to, MOST_NODES),
@@ -130,7 +133,8 @@ fn replaced(alloc: Global, by: &Rewriting, t: &Term) -> Result<Term, SizeFault>
 
 /// The term with each occurrence replaced, or TooLarge where no sequent may hold it.
 pub fn rewrite(alloc: Global, by: &Rewriting, t: &Term) -> Result<Term, RuleFault>
-    ensures { Gives RuleFault.NoMemory term_tree result (held (rewritten (rewriting_tree by.now) (term_tree t.now))) }
+    ensures { Gives RuleFault.NoMemory term_tree result
+        (held (rewritten (rewriting_tree by.now) (term_tree t.now))) }
 {
     Ok(replaced(alloc, by, t)?)
 }
@@ -146,7 +150,8 @@ fn rewrite_item(alloc: Global, by: &Rewriting, item: &Both) -> Result<Both, Rule
     Ok(Both { left, right })
 }
 
-/// The items with each occurrence replaced on both sides, or TooLarge where no sequent may hold one.
+/// The items with each occurrence replaced on both sides, or TooLarge where no sequent may hold
+/// one.
 #[tactic(auto, using(crate::proofs::RewriteLimits::items_rules))]
 pub fn rewrite_items(alloc: Global, by: &Rewriting, items: &[Both]) -> Result<Seq<Both>, RuleFault>
     ensures { MatchResult result
@@ -177,7 +182,9 @@ fn copy_with(alloc: Global, terms: &[Term], at: usize, term: Term) -> Result<Seq
 pub fn with_hyp_at(alloc: Global, s: &Sequent, k: u32, hyp: Term) -> Result<Sequent, NoMemory>
     requires { k < length (sequents.hyps_of (sequent_tree s.now)) }
     ensures { IfOk result
-        (λ p. sequent_tree p ≡ premises.with_hyps (slice_set (sequents.hyps_of (sequent_tree s.now)) k (term_tree hyp)) (sequent_tree s.now)) }
+        (λ p. sequent_tree p ≡ premises.with_hyps
+        (slice_set (sequents.hyps_of (sequent_tree s.now)) k (term_tree hyp))
+        (sequent_tree s.now)) }
 {
     let hyps = copy_with(alloc, hyps_of(s), k as usize, hyp)?;
     with_hyps(alloc, s, hyps)
@@ -192,7 +199,8 @@ pub fn with_items(
     items: Seq<Both>,
 ) -> Result<Sequent, NoMemory>
     ensures { IfOk result
-        (λ p. sequent_tree p ≡ equiv vars.now (map term_tree hyps.now) (map (map item_of) known.now) (map item_of items)) }
+        (λ p. sequent_tree p ≡ equiv vars.now (map term_tree hyps.now)
+        (map (map item_of) known.now) (map item_of items)) }
 {
     let vars = copy_sorts(alloc, vars)?;
     let hyps = copy_terms(alloc, hyps)?;

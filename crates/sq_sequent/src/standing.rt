@@ -3,27 +3,17 @@ ghost use Rattle.std.specs.Prelude.{◌≡◌, IfOk, map, length, option_map};
 ghost use Rattle.std.specs.Option.{option_copied};
 ghost use Rattle.sq_term.specs.Arguments.{arg_tree, an_index, a_time};
 ghost use Rattle.sq_term.specs.View.{ts_tree};
-ghost use Rattle.sq_system.specs.Environments.{env_tree};
 ghost use Rattle.sq_system.specs.Usable.{statement_at};
-ghost use Rattle.sq_sequent.specs.Statements.{statement_or_none};
 
 use crate::places::{idx_at, term_at, ts_at};
 use crate::site::Site;
-use crate::step::{IdxArg, TermArg, TsArg, ValArg};
 use crate::views::vars_of;
 use sq_base::{NoMemory, Sort};
-use sq_system::{Env, Sequent, Stmt, System};
+use sq_step::{IdxArg, TermArg, TsArg, ValArg};
+use sq_system::{Sequent, statement};
 use sq_term::{Action, Arg, Idx, Term, Ts, copy_ts};
 use sq_typing::{Binders, Signature, Subject};
 use std::alloc::Global;
-
-/// The statement with this number.
-#[tactic(auto, using(crate::proofs::Scoping::statement_rules))]
-pub fn statement(env: &Env, goal: u32) -> Option<&Stmt>
-    ensures { statement_or_none (option_copied result) ≡ statement_at (env_tree env.now) goal }
-{
-    sqlite_items::at(env.stmts.as_slice(), goal as usize)
-}
 
 fn as_index(found: Option<Idx>) -> Option<Arg>
     ensures { option_map arg_tree result ≡ option_map an_index found }
@@ -50,13 +40,12 @@ fn as_time(alloc: Global, found: Option<&Ts>) -> Result<Option<Arg>, NoMemory>
 impl<'a> Site<'a> {
     ghost use Rattle.std.specs.Prelude.{[]};
     ghost use Rattle.sq_term.specs.View.{term_tree};
-    ghost use Rattle.sq_system.specs.Sequents.{body_of, sequent_tree};
+    ghost use Rattle.sq_system.specs.Sequents.{body_of};
     ghost use Rattle.sq_system.specs.Usable.{system_of};
-    ghost use Rattle.sq_system.specs.WellFormed.{subject_of};
-    ghost use Rattle.sq_typing.specs.Typing as typing;
+    ghost use Rattle.sq_system.specs.Scopes.{subject_of};
     ghost use Rattle.sq_typing.specs.Views.{signature_tree, arities, subject};
     ghost use Rattle.sq_sequent.specs.Laws.{MayBeAssumed};
-    ghost use Rattle.sq_sequent.specs.Site.{site_tree};
+    ghost use Rattle.sq_sequent.specs.Sites.{site_tree};
     ghost use Rattle.sq_sequent.specs.Standing as spec;
 
     // The actions of the goal's system.
@@ -108,9 +97,9 @@ impl<'a> Site<'a> {
         }
     }
 
-    /// Whether the term has the sort and may stand in the sequent: it speaks of the environment, the
-    /// goal's system and the sequent's variables alone, is a trace formula in a Trace sequent and in
-    /// the hypotheses of an equivalence, and holds no Diff in a local sequent of one side.
+    /// Whether the term has the sort and may stand in the sequent: it speaks of the environment,
+    /// the goal's system and the sequent's variables alone, is a trace formula in a Trace sequent
+    /// and in the hypotheses of an equivalence, and holds no Diff in a local sequent of one side.
     #[tactic(auto, unfolding(crate::specs::Standing::may_stand))]
     pub fn may_stand(&self, sort: Sort, t: &Term) -> bool
         ensures standing { result ≡ spec.may_stand (site_tree self.now) sort (term_tree t.now) }

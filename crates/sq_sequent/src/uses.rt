@@ -7,18 +7,16 @@ ghost use Rattle.sq_system.specs.Environments.{env_tree};
 ghost use Rattle.sq_system.specs.Statements.{stmt_tree};
 ghost use Rattle.sq_subst.specs.Substitution.{instance_of};
 ghost use Rattle.sq_sequent.specs.Logic.{held};
-ghost use Rattle.sq_sequent.specs.Site.{site_tree};
+ghost use Rattle.sq_sequent.specs.Sites.{site_tree};
+ghost use Rattle.sq_sequent.specs.Sides as sides;
 ghost use Rattle.sq_sequent.specs.Uses as spec;
 
-use crate::fault::RuleFault;
-use crate::limits::MOST_NODES;
 use crate::site::Site;
-use crate::step::TermArg;
-use crate::usable::{is_usable, states_a_formula};
 use crate::views::goal_of;
 use sq_base::{NoMemory, Seq, Sort};
+use sq_step::TermArg;
 use sq_subst::{instance, project};
-use sq_system::{Env, Stmt};
+use sq_system::{Env, MOST_NODES, RuleFault, Stmt, is_usable, states_a_formula};
 use sq_term::{Side, Term, copy};
 use std::alloc::Global;
 
@@ -28,11 +26,12 @@ fn statement_there(env: &Env, k: u32) -> Option<&Stmt>
     sqlite_items::at(env.stmts.as_slice(), k as usize)
 }
 
-/// The formula of statement k, where it is an axiom or a lemma that the goal may use, and has so many
-/// schema variables.
+/// The formula of statement k, where it is an axiom or a lemma that the goal may use, and has so
+/// many schema variables.
 #[tactic(auto, unfolding(crate::specs::Uses::offered))]
 pub fn offered<'a>(at: &Site<'a>, k: u32, count: usize) -> Option<&'a Term>
-    ensures { option_map term_tree (option_copied result) ≡ spec.offered (site_tree at.now) k count }
+    ensures { option_map term_tree (option_copied result)
+        ≡ spec.offered (site_tree at.now) k count }
 {
     match statement_there(at.env, k) {
         Some(stmt) => {
@@ -56,7 +55,8 @@ pub fn messages_in(
     at: &Site,
     args: &[TermArg],
 ) -> Result<Option<Seq<Term>>, NoMemory>
-    ensures { IfOk result (λ ms. option_map (map term_tree) ms ≡ spec.messages_in (site_tree at.now) args.now) }
+    ensures { IfOk result (λ ms. option_map (map term_tree) ms
+        ≡ spec.messages_in (site_tree at.now) args.now) }
 {
     let mut messages = Seq::new(alloc);
     for arg in args {
@@ -84,7 +84,7 @@ pub fn instance_on(
     messages: &[Term],
 ) -> Result<Term, RuleFault>
     ensures { Gives RuleFault.NoMemory term_tree result
-        (held (spec.instance_on side (map term_tree messages.now) (term_tree formula.now))) }
+        (held (sides.instance_on side (map term_tree messages.now) (term_tree formula.now))) }
 {
     let there = project(alloc, formula, side, MOST_NODES)?;
     with_messages(alloc, &there, messages)

@@ -62,7 +62,8 @@ pub fn goal_of(s: &Sequent) -> Option<&Term>
 /// The goal of a local sequent.
 #[tactic(auto, unfolding(crate::specs::Views::local_goal_of))]
 pub fn local_goal_of(s: &Sequent) -> Option<&Term>
-    ensures { option_map term_tree (option_copied result) ≡ spec.local_goal_of (sequent_tree s.now) }
+    ensures { option_map term_tree (option_copied result)
+        ≡ spec.local_goal_of (sequent_tree s.now) }
 {
     match s {
         Sequent::Local { goal, .. } => Some(goal),

@@ -34,7 +34,8 @@ use Rattle.sq_system.specs.Environments.{without_declarations}
 use Rattle.sq_system.specs.Sequents.{Item, item, Body, trace_body, local_body, equiv_body}
 use Rattle.sq_system.specs.Sequents.{SequentTree, sequent, vars_of}
 use Rattle.sq_system.specs.Sizes.{fits}
-use Rattle.sq_system.specs.WellFormed.{signature_of, subject_of, has_both_sorts, is_item}
+use Rattle.sq_system.specs.Scopes.{signature_of, subject_of}
+use Rattle.sq_system.specs.WellFormed.{has_both_sorts, is_item}
 use Rattle.sq_system.specs.WellFormed.{is_sorted_body, is_sorted, is_sequent_of, is_statement}
 use Rattle.sq_system.specs.WellFormed.{is_body, are_bodies, is_well_sorted, are_numbered}
 use Rattle.sq_system.specs.WellFormed.{is_environment}

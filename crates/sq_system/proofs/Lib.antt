@@ -3,3 +3,4 @@ pub mod SystemLaws
 pub mod EnvLaws
 pub mod EnvPushes
 pub mod EnvFacts
+pub mod Lookups

@@ -5,5 +5,7 @@ pub mod Clashes
 pub mod Statements
 pub mod Environments
 pub mod Sizes
+pub mod Scopes
 pub mod WellFormed
 pub mod Usable
+pub mod Faults

@@ -1,6 +1,6 @@
 -- Which statements a goal may use.
 use Rattle.std.specs.Prelude.{ℕ, List, [], ◌∷◌, flat_map, get_or, Bool, true, false, if◌then◌else◌}
-use Rattle.std.specs.Prelude.{not, ◌&&◌, ◌||◌, ◌==◌, nat_lt}
+use Rattle.std.specs.Prelude.{not, ◌&&◌, ◌||◌, ◌==◌, nat_lt, Option, Some, None}
 use Rattle.sq_base.specs.declared.sort.Sort.{Sort}
 use Rattle.sq_base.specs.declared.sort.Sort.TheVariants.{Timestamp}
 use Rattle.sq_term.specs.Lists.{count}
@@ -8,10 +8,11 @@ use Rattle.sq_term.specs.Formulas.{truth}
 use Rattle.sq_term.specs.Syntax.{TermTree, name, fun, macro, schema, diff, le, ts_eq, idx_eq}
 use Rattle.sq_term.specs.Syntax.{happens, all, some, find, TermTrees, nil, cons}
 use Rattle.sq_term.specs.Systems.{SystemTree}
+use Rattle.sq_system.specs.declared.env.Stmt.{Stmt}
 use Rattle.sq_system.specs.declared.env.StmtKind.{StmtKind}
-use Rattle.sq_system.specs.declared.env.StmtKind.TheVariants.{Axiom, Lemma}
+use Rattle.sq_system.specs.declared.env.StmtKind.TheVariants.{Axiom, Lemma, Equiv}
 use Rattle.sq_system.specs.Sequents.{SequentTree, trace, local, equiv}
-use Rattle.sq_system.specs.Statements.{StmtTree, EnvTree, no_actions}
+use Rattle.sq_system.specs.Statements.{StmtTree, EnvTree, stmt_tree, no_actions}
 
 abbrev pub is_timestamp : Sort → Bool
 is_timestamp Timestamp = true
@@ -43,6 +44,10 @@ abbrev pub no_statement : StmtTree
 no_statement =
     record { kind = Lemma; system = 0; schemas = []; vars = []; start = trace [] [] truth }
 
+abbrev pub statement_or_none : Option Stmt → StmtTree
+statement_or_none None = no_statement
+statement_or_none (Some s) = stmt_tree s
+
 abbrev pub statement_at : EnvTree → ℕ → StmtTree
 statement_at env k = get_or env.stmts k no_statement
 
@@ -55,6 +60,12 @@ formula_of (equiv vars hyps known items) = truth
 abbrev pub is_axiom : StmtKind → Bool
 is_axiom Axiom = true
 is_axiom kind = false
+
+-- an axiom or a lemma
+abbrev pub states_a_formula : StmtKind → Bool
+states_a_formula Axiom = true
+states_a_formula Lemma = true
+states_a_formula Equiv = false
 
 -- an axiom whose formula speaks of no time holds in every system
 abbrev pub is_timeless_axiom : StmtTree → Bool

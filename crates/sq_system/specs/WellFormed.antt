@@ -1,5 +1,5 @@
 -- Well-formed sequents, statements and environments.
-use Rattle.std.specs.Prelude.{◌≡◌, ℕ, nat_le, List, [], map, length, replicate, slice_get, Option}
+use Rattle.std.specs.Prelude.{◌≡◌, ℕ, nat_le, List, [], length, replicate, slice_get, Option}
 use Rattle.std.specs.Prelude.{Some, None, Bool, true, false, ◌&&◌, ◌||◌, ◌==◌}
 use Rattle.std.specs.List.{list_all}
 use Rattle.sq_base.specs.declared.sort.Sort.{Sort}
@@ -10,33 +10,17 @@ use Rattle.sq_term.specs.Pure.{is_binder_sort}
 use Rattle.sq_term.specs.Syntax.{TermTree}
 use Rattle.sq_term.specs.Systems.{ActionTree, SystemTree}
 use Rattle.sq_typing.specs.Functions.{are_functions}
-use Rattle.sq_typing.specs.Standing.{Subject, of_trace, of_side, may_stand}
+use Rattle.sq_typing.specs.Standing.{of_trace, of_side, may_stand}
 use Rattle.sq_typing.specs.Typing.{Signature, has_sort, binds_indices}
 use Rattle.sq_system.specs.declared.env.StmtKind.{StmtKind}
 use Rattle.sq_system.specs.declared.env.StmtKind.TheVariants.{Axiom, Lemma, Equiv}
 use Rattle.sq_system.specs.Facts.{IsSystem, AreShallow}
 use Rattle.sq_system.specs.Limits.{most_entries}
+use Rattle.sq_system.specs.Scopes.{signature_of, subject_of}
 use Rattle.sq_system.specs.Statements.{StmtTree, EnvTree}
 use Rattle.sq_system.specs.Sequents.{Item, item, Body, trace_body, local_body, equiv_body}
 use Rattle.sq_system.specs.Sequents.{SequentTree, sequent, local, equiv, vars_of}
 use Rattle.sq_system.specs.Sizes.{fits}
-
--- what the terms of a system may speak of, with these schema variables and over these variables
-abbrev pub signature_of : EnvTree → SystemTree → ℕ → List Sort → Signature
-signature_of e s schemas vars =
-    record {
-      names = e.names;
-      funs = e.funs;
-      actions = map (λ a. a.arity) s.actions;
-      schemas = schemas;
-      vars = vars;
-    }
-
--- what the hypotheses beside a body speak of: those of an equivalence of the trace alone
-abbrev pub subject_of : Body → Subject
-subject_of (trace_body goal) = of_trace
-subject_of (local_body side goal) = of_side side
-subject_of (equiv_body known items) = of_trace
 
 -- each side may stand on that side
 abbrev pub has_both_sorts : Signature → Sort → Item → Bool

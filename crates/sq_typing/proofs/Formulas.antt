@@ -1,5 +1,6 @@
 -- What stands on a subject: the arguments of what stands there, and formulas made of others.
-use Rattle.std.proofs.Common.{◌≡◌, refl, sym, ap, ◌∙◌, ℕ, zero, suc, List, [], ◌∷◌, Bool, true, false, ◌&&◌, ◌||◌, ◌==◌, not, Some}
+use Rattle.std.proofs.Common.{◌≡◌, refl, sym, ap, ◌∙◌, ℕ, zero, suc, List, [], ◌∷◌, Bool, true}
+use Rattle.std.proofs.Common.{false, ◌&&◌, ◌||◌, ◌==◌, not, Some}
 use Rattle.std.specs.Prelude.{slice_get}
 use Rattle.std.proofs.lemmas.Bool.Decides.{Decides-eqb}
 use Rattle.sq_base.specs.declared.sort.Sort.{Sort}
@@ -19,9 +20,11 @@ use Rattle.sq_term.specs.TreeEquality.{is_same_sort}
 use Rattle.sq_term.proofs.BoolTests.{and_split, and_both}
 use Rattle.sq_term.proofs.SameTrees.{is_same_sort-decides}
 use Rattle.sq_typing.specs.Diffs.{holds_diff, hold_diff}
-use Rattle.sq_typing.specs.Functions.{builtin_function, builtin_functions, begins_with, same_function, are_functions}
+use Rattle.sq_typing.specs.Functions.{builtin_function, builtin_functions, begins_with}
+use Rattle.sq_typing.specs.Functions.{same_function, are_functions}
 use Rattle.sq_typing.specs.Standing.{Subject, of_trace, of_side, suits, may_stand}
-use Rattle.sq_typing.specs.Typing.{Signature, result_sort, applies, argument_sort, are_indices, has_sort, have_sorts}
+use Rattle.sq_typing.specs.Typing.{Signature, result_sort, applies, argument_sort, are_indices}
+use Rattle.sq_typing.specs.Typing.{has_sort, have_sorts}
 use Rattle.sq_typing.proofs.SortLaws.{argument_sorts}
 
 -- ---- Booleans
@@ -65,7 +68,8 @@ pub stands-from : (g h : Signature) (about : Subject) (r s : Sort) (t u : TermTr
     → (holds_diff t ≡ false → holds_diff u ≡ false)
     → may_stand g about r t ≡ true → may_stand h about s u ≡ true
 stands-from g h about r s t u f p d e =
-    stands h about s u (f (sort-of g about r t e)) (suits-from about t u p d (suits-of g about r t e))
+    stands h about s u (f (sort-of g about r t e))
+    (suits-from about t u p d (suits-of g about r t e))
 
 -- ---- arguments
 
@@ -122,24 +126,36 @@ module _ (g : Signature) (about : Subject) (s : Sort) (f : Kind) where
   pub only-stands : (a : TermTree) → may_stand g about s (formula.unary f a) ≡ true
       → may_stand g about (argument_sort f 0) a ≡ true
   only-stands a h =
-      let sorts = argument_sorts g [] s f [] (cons a nil) (sort-of g about s (formula.unary f a) h) in
-      let suit = arguments-suit about f [] (cons a nil) (suits-of g about s (formula.unary f a) h) in
-      stands g about (argument_sort f 0) a (and_split (has_sort g [] (argument_sort f 0) a) true sorts).0
+      let sorts =
+      argument_sorts g [] s f [] (cons a nil) (sort-of g about s (formula.unary f a) h) in
+      let suit =
+      arguments-suit about f [] (cons a nil) (suits-of g about s (formula.unary f a) h) in
+      stands g about (argument_sort f 0) a
+      (and_split (has_sort g [] (argument_sort f 0) a) true sorts).0
       (first-suits about a nil suit).0
 
   pub first-stands : (a b : TermTree) → may_stand g about s (formula.binary f a b) ≡ true
       → may_stand g about (argument_sort f 0) a ≡ true
   first-stands a b h =
-      let sorts = argument_sorts g [] s f [] (cons a (cons b nil)) (sort-of g about s (formula.binary f a b) h) in
-      let suit = arguments-suit about f [] (cons a (cons b nil)) (suits-of g about s (formula.binary f a b) h) in
-      stands g about (argument_sort f 0) a (and_split (has_sort g [] (argument_sort f 0) a) _ sorts).0
+      let sorts =
+      argument_sorts g [] s f [] (cons a (cons b nil))
+      (sort-of g about s (formula.binary f a b) h) in
+      let suit =
+      arguments-suit about f [] (cons a (cons b nil))
+      (suits-of g about s (formula.binary f a b) h) in
+      stands g about (argument_sort f 0) a
+      (and_split (has_sort g [] (argument_sort f 0) a) _ sorts).0
       (first-suits about a (cons b nil) suit).0
 
   pub second-stands : (a b : TermTree) → may_stand g about s (formula.binary f a b) ≡ true
       → may_stand g about (argument_sort f 1) b ≡ true
   second-stands a b h =
-      let sorts = argument_sorts g [] s f [] (cons a (cons b nil)) (sort-of g about s (formula.binary f a b) h) in
-      let suit = arguments-suit about f [] (cons a (cons b nil)) (suits-of g about s (formula.binary f a b) h) in
+      let sorts =
+      argument_sorts g [] s f [] (cons a (cons b nil))
+      (sort-of g about s (formula.binary f a b) h) in
+      let suit =
+      arguments-suit about f [] (cons a (cons b nil))
+      (suits-of g about s (formula.binary f a b) h) in
       stands g about (argument_sort f 1) b
       (and_split (has_sort g [] (argument_sort f 1) b) true
       (and_split (has_sort g [] (argument_sort f 0) a) _ sorts).1).0
@@ -171,13 +187,16 @@ IsBuiltin f = slice_get builtin_functions (function_number f) ≡ Some (builtin_
 
 module _ (g : Signature) (ok : are_functions g.funs ≡ true) where
   pub builtin-applies : (f : Kind) → IsBuiltin f
-      → (is_same_sort (result_sort (slice_get g.funs (function_number f))) (builtin_function f).result ≡ true)
+      → (is_same_sort (result_sort (slice_get g.funs (function_number f)))
+      (builtin_function f).result ≡ true)
       × (applies (slice_get g.funs (function_number f)) 0 (arguments f) ≡ true)
   builtin-applies f e =
       go (builtin-at builtin_functions g.funs (function_number f) (builtin_function f) ok e)
     where
-      go : (d : FunDecl) × (slice_get g.funs (function_number f) ≡ Some d) × (same_function (builtin_function f) d ≡ true)
-          → (is_same_sort (result_sort (slice_get g.funs (function_number f))) (builtin_function f).result ≡ true)
+      go : (d : FunDecl) × (slice_get g.funs (function_number f) ≡ Some d)
+          × (same_function (builtin_function f) d ≡ true)
+          → (is_same_sort (result_sort (slice_get g.funs (function_number f)))
+          (builtin_function f).result ≡ true)
           × (applies (slice_get g.funs (function_number f)) 0 (arguments f) ≡ true)
       go (d, at, same) =
           let s : Sort = (builtin_function f).result in
@@ -197,7 +216,8 @@ module _ (g : Signature) (ok : are_functions g.funs ≡ true) where
       → has_sort g bs (builtin_function f).result (fun f [] ts) ≡ true
   application-sorted f bs ts e n h =
       let p = builtin-applies f e in
-      and_both (is_same_sort (result_sort (slice_get g.funs (function_number f))) (builtin_function f).result) _ p.0
+      and_both (is_same_sort (result_sort (slice_get g.funs (function_number f)))
+      (builtin_function f).result) _ p.0
       (and_both (applies (slice_get g.funs (function_number f)) 0 (count_terms ts)) _
       (ap (applies (slice_get g.funs (function_number f)) 0) n ∙ p.1) h)
 
@@ -221,7 +241,8 @@ module _ (g : Signature) (ok : are_functions g.funs ≡ true) where
       (more-suit about a nil (suits-of g about Boolean a h) (none-suit about))
 
   -- of two formulas
-  module _ (about : Subject) (a b : TermTree) (h : may_stand g about Boolean a ≡ true) (k : may_stand g about Boolean b ≡ true) where
+  module _ (about : Subject) (a b : TermTree) (h : may_stand g about Boolean a ≡ true)
+      (k : may_stand g about Boolean b ≡ true) where
     sorted : (has_sort g [] Boolean a && (has_sort g [] Boolean b && true)) ≡ true
     sorted =
         and_both (has_sort g [] Boolean a) _ (sort-of g about Boolean a h)
@@ -245,7 +266,8 @@ module _ (g : Signature) (ok : are_functions g.funs ≡ true) where
         connective-stands about kind.implication (cons a (cons b nil)) refl refl refl sorted suited
 
   pub equivalent-stands : (about : Subject) (a b : TermTree) → may_stand g about Boolean a ≡ true
-      → may_stand g about Boolean b ≡ true → may_stand g about Boolean (formula.equivalent a b) ≡ true
+      → may_stand g about Boolean b ≡ true → may_stand g about Boolean (formula.equivalent a b)
+      ≡ true
   equivalent-stands about a b h k =
       both-stands about (formula.implies a b) (formula.implies b a) (implies-stands about a b h k)
       (implies-stands about b a k h)

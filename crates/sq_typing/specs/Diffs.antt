@@ -1,6 +1,7 @@
 -- Where the two sides of a term differ.
 use Rattle.std.specs.Prelude.{Bool, true, false, ◌||◌}
-use Rattle.sq_term.specs.Syntax.{TermTree, name, fun, macro, schema, diff, le, ts_eq, idx_eq, happens, all, some, find, TermTrees, nil, cons}
+use Rattle.sq_term.specs.Syntax.{TermTree, name, fun, macro, schema, diff, le, ts_eq, idx_eq}
+use Rattle.sq_term.specs.Syntax.{happens, all, some, find, TermTrees, nil, cons}
 
 -- a `diff` stands somewhere in the term
 abbrev mutual

@@ -1,5 +1,6 @@
 -- The functions of a signature: the built-in ones, and the declared ones.
-use Rattle.std.specs.Prelude.{ℕ, List, [], ◌∷◌, map, Bool, true, false, if◌then◌else◌, ◌&&◌, ◌||◌, ◌==◌}
+use Rattle.std.specs.Prelude.{ℕ, List, [], ◌∷◌, map, Bool, true, false, if◌then◌else◌, ◌&&◌, ◌||◌}
+use Rattle.std.specs.Prelude.{◌==◌}
 use Rattle.sq_base.specs.declared.sort.Sort.{Sort}
 use Rattle.sq_base.specs.declared.sort.Sort.TheVariants.{Message, Boolean}
 use Rattle.sq_term.specs.declared.signature.FunDecl.{FunDecl}
@@ -33,7 +34,8 @@ same_role _ _ = false
 
 -- a function of the role without indices
 abbrev pub is_function : FunDecl → ℕ → Sort → FunRole → Bool
-is_function d n s r = (d.idx == 0) && ((d.args == n) && (is_same_sort d.result s && same_role d.role r))
+is_function d n s r =
+    (d.idx == 0) && ((d.args == n) && (is_same_sort d.result s && same_role d.role r))
 
 -- a plain function with a message or a Boolean, or a hash of a message under a key
 abbrev pub stands_alone : FunDecl → Bool
@@ -54,11 +56,14 @@ are_declared any_function (d ∷ ds) =
     if same_role d.role Sign
     then is_function d 2 Message Sign && are_declared check_of_signature ds
     else stands_alone d && are_declared any_function ds
-are_declared check_of_signature (d ∷ ds) = is_function d 3 Boolean Check && are_declared key_of_signature ds
+are_declared check_of_signature (d ∷ ds) =
+    is_function d 3 Boolean Check && are_declared key_of_signature ds
 are_declared key_of_signature (d ∷ ds) = is_function d 1 Message Pk && are_declared any_function ds
 
 abbrev pub same_function : FunDecl → FunDecl → Bool
-same_function d e = (d.idx == e.idx) && ((d.args == e.args) && (is_same_sort d.result e.result && same_role d.role e.role))
+same_function d e =
+    (d.idx == e.idx)
+    && ((d.args == e.args) && (is_same_sort d.result e.result && same_role d.role e.role))
 
 -- the first functions, and the rest declared
 abbrev pub begins_with : List FunDecl → List FunDecl → Bool

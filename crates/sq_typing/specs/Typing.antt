@@ -1,5 +1,7 @@
 -- Sorts of terms: which terms are well-sorted in a signature, over variables.
-use Rattle.std.specs.Prelude.{ℕ, zero, suc, List, [], ◌∷◌, ◌++◌, Option, Some, None, Bool, true, false, ◌&&◌, ◌==◌, nat_lt, if◌then◌else◌, length, replicate, slice_get}
+use Rattle.std.specs.Prelude.{ℕ, zero, suc, List, [], ◌∷◌, ◌++◌, Option, Some, None, Bool, true}
+use Rattle.std.specs.Prelude.{false, ◌&&◌, ◌==◌, nat_lt, if◌then◌else◌, length, replicate}
+use Rattle.std.specs.Prelude.{slice_get}
 use Rattle.sq_base.specs.declared.sort.Sort.{Sort}
 use Rattle.sq_base.specs.declared.sort.Sort.TheVariants.{Message, Boolean, Index, Timestamp}
 use Rattle.sq_term.specs.declared.term.Idx.{Idx}
@@ -13,7 +15,9 @@ use Rattle.sq_term.specs.Pure.{is_binder_sort}
 use Rattle.sq_term.specs.Builtins.{takes_boolean}
 use Rattle.sq_term.specs.Symbols.{Kind, function_number}
 use Rattle.sq_term.specs.TreeEquality.{is_same_sort}
-use Rattle.sq_term.specs.Syntax.{TsTree, free, bound, init, pred, action, TermTree, name, fun, macro, schema, diff, le, ts_eq, idx_eq, happens, all, some, find, TermTrees, nil, cons}
+use Rattle.sq_term.specs.Syntax.{TsTree, free, bound, init, pred, action, TermTree, name, fun}
+use Rattle.sq_term.specs.Syntax.{macro, schema, diff, le, ts_eq, idx_eq, happens, all, some, find}
+use Rattle.sq_term.specs.Syntax.{TermTrees, nil, cons}
 
 -- What a term may speak of: names with their counts of indices, functions, actions of one system
 -- with their counts of indices, schema variables by their number, and variables with their sorts.

@@ -1,4 +1,4 @@
-use Rattle.sq_sequent.specs.Site.{site_tree}
+use Rattle.sq_sequent.specs.Sites.{site_tree}
 use Rattle.sq_rules_logic.proofs.Answering.{answers, premises_formed, premises_suffice}
 use Rattle.sq_rules_logic.proofs.premises.Goals as goal
 

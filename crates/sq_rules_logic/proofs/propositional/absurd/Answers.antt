@@ -11,4 +11,5 @@ returns-in-False c =
 
 pub returns-in_default : goal.returns-in_default
 returns-in_default c =
-    λ n. absurd-else c.shape_of.result _ _ c.hyp_of.ensures c.shape_of.ensures c.in_default.not-False
+    λ n. absurd-else c.shape_of.result _ _ c.hyp_of.ensures c.shape_of.ensures
+    c.in_default.not-False

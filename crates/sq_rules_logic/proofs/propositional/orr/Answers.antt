@@ -10,5 +10,6 @@ returns-in_ok-asking_copy-in-Or c =
 
 pub returns-in_default : goal.returns-in_default
 returns-in_default c =
-    λ n. orr-else (sequent_tree c.args.s.now) c.shape_of.result _ _ c.goal_of.ensures c.shape_of.ensures
+    λ n. orr-else (sequent_tree c.args.s.now) c.shape_of.result _ _ c.goal_of.ensures
+    c.shape_of.ensures
     c.in_default.not-Or

@@ -2,9 +2,9 @@ use Rattle.std.proofs.Common.{sym, ap, subst, ◌∙◌}
 use Rattle.std.specs.Prelude.{option_map}
 use Rattle.sq_base.specs.Gives.{Gives}
 use Rattle.sq_term.specs.Arguments.{arg_tree}
-use Rattle.sq_sequent.specs.declared.fault.RuleFault.TheVariants as fault
+use Rattle.sq_system.specs.declared.fault.RuleFault.TheVariants as fault
 use Rattle.sq_sequent.specs.Logic.{sequent_trees, judged}
-use Rattle.sq_sequent.specs.Site.{site_tree}
+use Rattle.sq_sequent.specs.Sites.{site_tree}
 use Rattle.sq_sequent.proofs.RowShapes.{exi-there, exi-else}
 use Rattle.sq_rules_logic.proofs.quantifiers.exi.Goals as goal
 
@@ -12,14 +12,18 @@ pub returns-in-Some : goal.returns-in-Some
 returns-in-Some c =
     subst (λ r. Gives fault.NoMemory sequent_trees c.asking_at.result (judged r))
     (sym (exi-there (site_tree c.args.at.now) c.args.witness.now _ _ _ _ _ c.goal_of.ensures
-    c.in-Exists.ensures (sym c.in_ok-value-in-Exists.ensures ∙ ap (option_map arg_tree) c.in-Some.is))) c.asking_at.ensures
+    c.in-Exists.ensures (sym c.in_ok-value-in-Exists.ensures ∙ ap
+    (option_map arg_tree) c.in-Some.is))) c.asking_at.ensures
 
 pub returns-in-None : goal.returns-in-None
 returns-in-None c =
-    λ n. ap judged (exi-there (site_tree c.args.at.now) c.args.witness.now _ _ _ _ _ c.goal_of.ensures
-    c.in-Exists.ensures (sym c.in_ok-value-in-Exists.ensures ∙ ap (option_map arg_tree) c.in-None.is))
+    λ n. ap judged (exi-there (site_tree c.args.at.now) c.args.witness.now _ _ _ _ _
+    c.goal_of.ensures
+    c.in-Exists.ensures (sym c.in_ok-value-in-Exists.ensures ∙ ap
+    (option_map arg_tree) c.in-None.is))
 
 pub returns-in_default : goal.returns-in_default
 returns-in_default c =
-    λ n. exi-else (site_tree c.args.at.now) c.args.witness.now c.shape_of.result _ _ c.goal_of.ensures c.shape_of.ensures
+    λ n. exi-else (site_tree c.args.at.now) c.args.witness.now c.shape_of.result _ _
+    c.goal_of.ensures c.shape_of.ensures
     c.in_default.not-Exists

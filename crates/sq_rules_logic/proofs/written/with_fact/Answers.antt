@@ -1,8 +1,7 @@
-use Rattle.sq_system.specs.Sequents.{sequent_tree}
 use Rattle.sq_sequent.specs.Facts.{standing_fact}
 use Rattle.sq_sequent.specs.Places.{term_at}
-use Rattle.sq_sequent.specs.Site.{site_tree}
-use Rattle.sq_sequent.proofs.FactParts.{fact-refused}
+use Rattle.sq_sequent.specs.Sites.{site_tree}
+use Rattle.sq_sequent.proofs.Held.{fact-refused}
 use Rattle.sq_rules_logic.proofs.written.with_fact.Goals as goal
 
 pub returns-in-Err : goal.returns-in-Err

@@ -8,7 +8,8 @@ use Rattle.sq_term.proofs.Views.{ts_tree-Free}
 use Rattle.sq_sequent.specs.Premises.{variable}
 use Rattle.sq_sequent.proofs.binders.variable.Goals as goal
 
-no_index : (s : Sort) (k : ℕ) → (s ≡ Message) ⊎ ((s ≡ Boolean) ⊎ (s ≡ Timestamp)) → a_time (ts_tree (ts.Free k)) ≡ variable s k
+no_index : (s : Sort) (k : ℕ) → (s ≡ Message) ⊎ ((s ≡ Boolean) ⊎ (s ≡ Timestamp))
+    → a_time (ts_tree (ts.Free k)) ≡ variable s k
 no_index s k (inl e) = ap a_time (ts_tree-Free k) ∙ ap (λ x. variable x k) (sym e)
 no_index s k (inr (inl e)) = ap a_time (ts_tree-Free k) ∙ ap (λ x. variable x k) (sym e)
 no_index s k (inr (inr e)) = ap a_time (ts_tree-Free k) ∙ ap (λ x. variable x k) (sym e)

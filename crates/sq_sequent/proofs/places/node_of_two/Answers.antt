@@ -7,4 +7,5 @@ use Rattle.sq_sequent.proofs.places.node_of_two.Goals as goal
 pub returns-in-Err : goal.returns-in-Err
 returns-in-Err c =
     c.time_node-in-Err.ensures
-    ∙ then-on (ts_nodes (ts_tree c.args.a.now)) (ts_nodes (ts_tree c.args.b.now)) c.args.k c.in-Err.rest c.in-Err.ensures
+    ∙ then-on (ts_nodes (ts_tree c.args.a.now))
+    (ts_nodes (ts_tree c.args.b.now)) c.args.k c.in-Err.rest c.in-Err.ensures

@@ -3,8 +3,8 @@ use Rattle.sq_sequent.proofs.RewriteShapes.{halves-first, halves-second, no-back
 use Rattle.sq_sequent.proofs.rewriting.by_halves.Goals as goal
 use Rattle.sq_sequent.proofs.rewriting.by_halves.Goals.{
   else-is_same-via-then-is_same+else-is_same-2,
-  else-is_same-via-else-is_same,
 }
+use Rattle.sq_sequent.proofs.rewriting.by_halves.Goals.{else-is_same-via-else-is_same}
 
 pub returns-else-is_same : goal.returns-else-is_same
 returns-else-is_same c =

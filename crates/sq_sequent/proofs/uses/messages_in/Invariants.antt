@@ -1,6 +1,6 @@
 use Rattle.std.proofs.Common.{◌≡◌, map, drop}
 use Rattle.sq_term.specs.View.{term_tree}
-use Rattle.sq_sequent.specs.Site.{site_tree}
+use Rattle.sq_sequent.specs.Sites.{site_tree}
 use Rattle.sq_sequent.specs.Uses.{messages_in}
 use Rattle.sq_sequent.proofs.Messages.{before}
 use Rattle.sq_sequent.proofs.uses.messages_in.Given as goal

@@ -1,5 +1,5 @@
 use Rattle.sq_term.specs.View.{term_tree}
-use Rattle.sq_sequent.specs.Site.{site_tree}
+use Rattle.sq_sequent.specs.Sites.{site_tree}
 use Rattle.sq_sequent.proofs.Assumed.{may_be_assumed}
 use Rattle.sq_sequent.proofs.site.Site.may_stand.Goals as goal
 

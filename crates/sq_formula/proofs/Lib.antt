@@ -1,0 +1,14 @@
+pub mod ShapeParts
+pub mod FactReads
+pub mod FactParts
+pub mod FactShapes
+pub mod KeptSorts
+pub mod KeptParts
+pub mod ClosedSorts
+pub mod FactSorts
+pub mod Opened
+pub mod SideSorts
+pub mod ReplacedSorts
+pub mod InstanceSorts
+pub mod NoSmaller
+pub mod Timeless

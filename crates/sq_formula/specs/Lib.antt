@@ -1,0 +1,4 @@
+pub mod Shapes
+pub mod Refusals
+pub mod Facts
+pub mod FactSearch
