@@ -10,8 +10,13 @@ use Rattle.sq_ast.specs.declared.formula.Binary.{Binary}
 use Rattle.sq_ast.specs.declared.formula.Unary.{Unary}
 use Rattle.sq_ast.specs.declared.formula.Unary.TheVariants.{Pred}
 use Rattle.sq_ast.specs.declared.formula.MacroWord.{MacroWord}
-use Rattle.sq_ast.specs.Tree.{Group, FormulaTree, quantified, binary, group, pair, constant, conditional, find, diff, unary, value, name, apply, FormulaTrees, none, more}
-use Rattle.sq_ast.specs.Grammar.{quantifier_word, binary_mark, unary_word, macro_word, names_spelled, groups_spelled, IsFilled, AreBinders, spelled, rank, binary_rank, left_form, operand_form, argument_form, HasForm, IsBuilt}
+use Rattle.sq_ast.specs.Tree.{Group, FormulaTree, quantified, binary, group, pair, constant}
+use Rattle.sq_ast.specs.Tree.{conditional, find, diff, unary, value, name, apply, FormulaTrees}
+use Rattle.sq_ast.specs.Tree.{none, more}
+use Rattle.sq_ast.specs.Grammar.{quantifier_word, binary_mark, unary_word, macro_word}
+use Rattle.sq_ast.specs.Grammar.{names_spelled, groups_spelled, IsFilled, AreBinders, spelled, rank}
+use Rattle.sq_ast.specs.Grammar.{binary_rank, left_form, operand_form, argument_form, HasForm}
+use Rattle.sq_ast.specs.Grammar.{IsBuilt}
 
 -- how many nodes stand one inside the other; a leaf has depth 1
 abbrev mutual
@@ -60,7 +65,8 @@ pub data Alternative : Type 0 where
 
 -- the tokens that tell which alternative it is
 abbrev pub lead : Alternative → List Sign
-lead (quantification q gs) = reserved (quantifier_word q) ∷ mark p.OpenParenthesis ∷ groups_spelled gs
+lead (quantification q gs) = reserved (quantifier_word q) ∷ mark p.OpenParenthesis
+    ∷ groups_spelled gs
 lead grouping = mark p.OpenParenthesis ∷ []
 lead pairing = mark p.Less ∷ []
 lead condition = reserved r.If ∷ []
@@ -76,13 +82,18 @@ pub data Element : Type 0 where
 
 -- what stands behind those tokens, in order
 abbrev pub elements : Alternative → List Element
-elements (quantification q gs) = token (mark p.CloseParenthesis) ∷ token (mark p.Comma) ∷ part Formula ∷ []
+elements (quantification q gs) = token (mark p.CloseParenthesis) ∷ token (mark p.Comma)
+    ∷ part Formula ∷ []
 elements grouping = part Formula ∷ token (mark p.CloseParenthesis) ∷ []
 elements pairing = part Term ∷ token (mark p.Comma) ∷ part Term ∷ token (mark p.Greater) ∷ []
-elements condition = part Formula ∷ token (reserved r.Then) ∷ part Term ∷ token (reserved r.Else) ∷ part Term ∷ []
-elements (finding ns) = token (reserved r.Such) ∷ token (reserved r.That) ∷ part Formula ∷ token (reserved r.In) ∷ part Term ∷ token (reserved r.Else) ∷ part Term ∷ []
-elements difference = token (mark p.OpenParenthesis) ∷ part Formula ∷ token (mark p.Comma) ∷ part Formula ∷ token (mark p.CloseParenthesis) ∷ []
-elements (call u) = token (mark p.OpenParenthesis) ∷ part (argument_form u) ∷ token (mark p.CloseParenthesis) ∷ []
+elements condition = part Formula ∷ token (reserved r.Then) ∷ part Term ∷ token (reserved r.Else)
+    ∷ part Term ∷ []
+elements (finding ns) = token (reserved r.Such) ∷ token (reserved r.That) ∷ part Formula
+    ∷ token (reserved r.In) ∷ part Term ∷ token (reserved r.Else) ∷ part Term ∷ []
+elements difference = token (mark p.OpenParenthesis) ∷ part Formula ∷ token (mark p.Comma)
+    ∷ part Formula ∷ token (mark p.CloseParenthesis) ∷ []
+elements (call u) = token (mark p.OpenParenthesis) ∷ part (argument_form u)
+    ∷ token (mark p.CloseParenthesis) ∷ []
 elements (valuation m) = token (mark p.At) ∷ part Time ∷ []
 
 -- no list of identifiers or binders is empty
@@ -107,7 +118,8 @@ module _ (R : Form → List Sign → Type 0) where
   abbrev pub ElementDeep : List Element → List Sign → Type 0
   ElementDeep [] ts = ⊥
   ElementDeep (token s ∷ es) ts = (q : List Sign) × (ts ≡ s ∷ q) × ElementDeep es q
-  ElementDeep (part f ∷ es) ts = R f ts ⊎ ((a : FormulaTree) × (q : List Sign) × IsLongest f ts a q × ElementDeep es q)
+  ElementDeep (part f ∷ es) ts = R f ts
+      ⊎ ((a : FormulaTree) × (q : List Sign) × IsLongest f ts a q × ElementDeep es q)
 
   pub record AlternativeDeep (f : Form) (ts : List Sign) : Type 0 where
     pub alternative : Alternative
@@ -120,7 +132,8 @@ module _ (R : Form → List Sign → Type 0) where
   -- behind some formulas, each with its comma
   abbrev pub ListDeep : FormulaTrees → List Sign → Type 0
   ListDeep none ts = R Formula ts
-  ListDeep (more a xs) ts = (q : List Sign) × IsLongest Formula ts a (mark p.Comma ∷ q) × ListDeep xs q
+  ListDeep (more a xs) ts =
+      (q : List Sign) × IsLongest Formula ts a (mark p.Comma ∷ q) × ListDeep xs q
 
   pub record ArgumentDeep (ts : List Sign) : Type 0 where
     pub function : List ℕ

@@ -12,14 +12,17 @@ use Rattle.sq_ast.specs.declared.formula.Form.TheVariants.{Time, Term, Atom, Con
 use Rattle.sq_ast.specs.declared.formula.Quantifier.{Quantifier}
 use Rattle.sq_ast.specs.declared.formula.Quantifier.TheVariants.{Forall, Exists}
 use Rattle.sq_ast.specs.declared.formula.Binary.{Binary}
-use Rattle.sq_ast.specs.declared.formula.Binary.TheVariants.{Implies, Or, And, Equal, NotEqual, LessEqual, Less}
+use Rattle.sq_ast.specs.declared.formula.Binary.TheVariants.{Implies, Or, And, Equal, NotEqual}
+use Rattle.sq_ast.specs.declared.formula.Binary.TheVariants.{LessEqual, Less}
 use Rattle.sq_ast.specs.declared.formula.Constant.{Constant}
 use Rattle.sq_ast.specs.declared.formula.Constant.TheVariants.{True, False, Empty, Init}
 use Rattle.sq_ast.specs.declared.formula.Unary.{Unary}
 use Rattle.sq_ast.specs.declared.formula.Unary.TheVariants.{Not, Fst, Snd, OfBool, Happens, Pred}
 use Rattle.sq_ast.specs.declared.formula.MacroWord.{MacroWord}
 use Rattle.sq_ast.specs.declared.formula.MacroWord.TheVariants.{Input, Output, Cond, Exec, Frame}
-use Rattle.sq_ast.specs.Tree.{Group, FormulaTree, quantified, binary, group, pair, constant, conditional, find, diff, unary, value, name, apply, FormulaTrees, none, more}
+use Rattle.sq_ast.specs.Tree.{Group, FormulaTree, quantified, binary, group, pair, constant}
+use Rattle.sq_ast.specs.Tree.{conditional, find, diff, unary, value, name, apply, FormulaTrees}
+use Rattle.sq_ast.specs.Tree.{none, more}
 
 -- ---- tokens that stand for themselves
 
@@ -110,18 +113,26 @@ AreBinders gs = IsFilled gs × AreGroups gs
 -- the tokens that a tree stands for
 abbrev mutual
   pub spelled : FormulaTree → List Sign
-  spelled (quantified q gs a) = reserved (quantifier_word q) ∷ mark p.OpenParenthesis ∷ (groups_spelled gs ++ mark p.CloseParenthesis ∷ mark p.Comma ∷ spelled a)
+  spelled (quantified q gs a) = reserved (quantifier_word q) ∷ mark p.OpenParenthesis
+      ∷ (groups_spelled gs ++ mark p.CloseParenthesis ∷ mark p.Comma ∷ spelled a)
   spelled (binary o a b) = spelled a ++ mark (binary_mark o) ∷ spelled b
   spelled (group a) = mark p.OpenParenthesis ∷ (spelled a ++ mark p.CloseParenthesis ∷ [])
-  spelled (pair a b) = mark p.Less ∷ (spelled a ++ mark p.Comma ∷ (spelled b ++ mark p.Greater ∷ []))
+  spelled (pair a b) = mark p.Less
+      ∷ (spelled a ++ mark p.Comma ∷ (spelled b ++ mark p.Greater ∷ []))
   spelled (constant c) = reserved (constant_word c) ∷ []
-  spelled (conditional a b c) = reserved r.If ∷ (spelled a ++ reserved r.Then ∷ (spelled b ++ reserved r.Else ∷ spelled c))
-  spelled (find ns a b c) = reserved r.Find ∷ (names_spelled ns ++ reserved r.Such ∷ reserved r.That ∷ (spelled a ++ reserved r.In ∷ (spelled b ++ reserved r.Else ∷ spelled c)))
-  spelled (diff a b) = reserved r.Diff ∷ mark p.OpenParenthesis ∷ (spelled a ++ mark p.Comma ∷ (spelled b ++ mark p.CloseParenthesis ∷ []))
-  spelled (unary u a) = reserved (unary_word u) ∷ mark p.OpenParenthesis ∷ (spelled a ++ mark p.CloseParenthesis ∷ [])
+  spelled (conditional a b c) = reserved r.If
+      ∷ (spelled a ++ reserved r.Then ∷ (spelled b ++ reserved r.Else ∷ spelled c))
+  spelled (find ns a b c) = reserved r.Find
+      ∷ (names_spelled ns ++ reserved r.Such ∷ reserved r.That
+      ∷ (spelled a ++ reserved r.In ∷ (spelled b ++ reserved r.Else ∷ spelled c)))
+  spelled (diff a b) = reserved r.Diff ∷ mark p.OpenParenthesis
+      ∷ (spelled a ++ mark p.Comma ∷ (spelled b ++ mark p.CloseParenthesis ∷ []))
+  spelled (unary u a) = reserved (unary_word u) ∷ mark p.OpenParenthesis
+      ∷ (spelled a ++ mark p.CloseParenthesis ∷ [])
   spelled (value m a) = reserved (macro_word m) ∷ mark p.At ∷ spelled a
   spelled (name n) = word n ∷ []
-  spelled (apply n xs) = word n ∷ mark p.OpenParenthesis ∷ (list_spelled xs ++ mark p.CloseParenthesis ∷ [])
+  spelled (apply n xs) = word n ∷ mark p.OpenParenthesis
+      ∷ (list_spelled xs ++ mark p.CloseParenthesis ∷ [])
 
   -- formulas that are parted by commas
   pub list_spelled : FormulaTrees → List Sign
@@ -228,12 +239,14 @@ IsSome (more a xs) = ⊤
 abbrev mutual
   pub IsBuilt : FormulaTree → Type 0
   IsBuilt (quantified q gs a) = AreBinders gs × IsBuilt a
-  IsBuilt (binary o a b) = HasForm (left_form o) a × IsBuilt a × HasForm (operand_form o) b × IsBuilt b
+  IsBuilt (binary o a b) =
+      HasForm (left_form o) a × IsBuilt a × HasForm (operand_form o) b × IsBuilt b
   IsBuilt (group a) = IsBuilt a
   IsBuilt (pair a b) = HasForm Term a × IsBuilt a × HasForm Term b × IsBuilt b
   IsBuilt (constant c) = ⊤
   IsBuilt (conditional a b c) = IsBuilt a × HasForm Term b × IsBuilt b × HasForm Term c × IsBuilt c
-  IsBuilt (find ns a b c) = IsFilled ns × IsBuilt a × HasForm Term b × IsBuilt b × HasForm Term c × IsBuilt c
+  IsBuilt (find ns a b c) =
+      IsFilled ns × IsBuilt a × HasForm Term b × IsBuilt b × HasForm Term c × IsBuilt c
   IsBuilt (diff a b) = IsBuilt a × IsBuilt b
   IsBuilt (unary u a) = HasForm (argument_form u) a × IsBuilt a
   IsBuilt (value m a) = HasForm Time a × IsBuilt a

@@ -4,5 +4,7 @@ pub mod Grammar
 pub mod Deep
 pub mod ProcTree
 pub mod ProcGrammar
-pub mod DeclTree
-pub mod CommandTree
+pub mod Sentence
+pub mod Forms
+pub mod SentenceTrees
+pub mod Commands

@@ -1,5 +1,5 @@
 -- The syntax tree of a process, as plain data.
-use Rattle.std.specs.Prelude.{ℕ, List, [], ◌∷◌, Some, None}
+use Rattle.std.specs.Prelude.{ℕ, List, [], ◌∷◌, map, Option, Some, None}
 use Rattle.sq_ast.specs.declared.process.Proc.{Proc}
 use Rattle.sq_ast.specs.declared.process.Proc.TheOpen.{Proc-F}
 use Rattle.sq_ast.specs.declared.process.Proc.TheFolds.{fold-Proc}
@@ -30,6 +30,23 @@ mutual
     none : ProcTrees
     more : ProcTree → ProcTrees → ProcTrees
 
+-- with an optional last part
+abbrev pub receive_before : List ℕ → List ℕ → Option ProcTree → ProcTree
+receive_before c x None = receive c x
+receive_before c x (Some a) = receive_then c x a
+
+abbrev pub send_before : List ℕ → FormulaTree → Option ProcTree → ProcTree
+send_before c f None = send c f
+send_before c f (Some a) = send_then c f a
+
+abbrev pub branch_or : FormulaTree → ProcTree → Option ProcTree → ProcTree
+branch_or f a None = branch f a
+branch_or f a (Some b) = branch_else f a b
+
+abbrev pub find_or : List (List ℕ) → FormulaTree → ProcTree → Option ProcTree → ProcTree
+find_or ns f a None = find ns f a
+find_or ns f a (Some b) = find_else ns f a b
+
 abbrev pub trees : List ProcTree → ProcTrees
 trees [] = none
 trees (p ∷ ps) = more p (trees ps)
@@ -55,3 +72,6 @@ node (Proc-F.Parallel ps) = parallel (trees ps)
 
 abbrev pub process_tree : Proc → ProcTree
 process_tree = fold-Proc ProcTree node
+
+abbrev pub process_trees : List Proc → ProcTrees
+process_trees ps = trees (map process_tree ps)

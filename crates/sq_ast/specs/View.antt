@@ -4,11 +4,13 @@ use Rattle.sq_ast.specs.declared.formula.Formula.{Formula}
 use Rattle.sq_ast.specs.declared.formula.Formula.TheOpen.{Formula-F}
 use Rattle.sq_ast.specs.declared.formula.Formula.TheFolds.{fold-Formula}
 use Rattle.sq_ast.specs.declared.formula.Quantifier.TheVariants.{Forall, Exists}
-use Rattle.sq_ast.specs.declared.formula.Binary.TheVariants.{Implies, Or, And, Equal, NotEqual, LessEqual, Less}
+use Rattle.sq_ast.specs.declared.formula.Binary.TheVariants.{Implies, Or, And, Equal, NotEqual}
+use Rattle.sq_ast.specs.declared.formula.Binary.TheVariants.{LessEqual, Less}
 use Rattle.sq_ast.specs.declared.formula.Constant.TheVariants.{True, False, Empty, Init}
 use Rattle.sq_ast.specs.declared.formula.Unary.TheVariants.{Not, Fst, Snd, OfBool, Happens, Pred}
 use Rattle.sq_ast.specs.declared.formula.MacroWord.TheVariants.{Input, Output, Cond, Exec, Frame}
-use Rattle.sq_ast.specs.Tree.{FormulaTree, quantified, binary, group, pair, constant, conditional, find, diff, unary, value, name, apply, FormulaTrees, none, more}
+use Rattle.sq_ast.specs.Tree.{FormulaTree, quantified, binary, group, pair, constant, conditional}
+use Rattle.sq_ast.specs.Tree.{find, diff, unary, value, name, apply, FormulaTrees, none, more}
 
 abbrev pub trees : List FormulaTree → FormulaTrees
 trees [] = none

@@ -1,3 +1,7 @@
+ghost use Rattle.std.specs.Prelude.{◌≡◌};
+ghost use Rattle.sq_ast.specs.Forms as spec;
+ghost use Rattle.sq_ast.specs.Commands.{command_of};
+
 use crate::{Formula, MacroWord};
 use sq_base::{Seq, Text};
 
@@ -81,4 +85,138 @@ pub enum ProofCommand {
     Constraints,
     Congruence,
     Auto,
+}
+
+/// The first word of a proof command. Only `exists t` begins with another.
+#[derive(Clone, Copy, Debug, PartialEq, Eq)]
+pub enum CommandWord {
+    Intro,
+    Split,
+    Left,
+    Right,
+    Destruct,
+    Mp,
+    Contra,
+    Spec,
+    Have,
+    Case,
+    Drop,
+    Use,
+    Project,
+    Trace,
+    Assumption,
+    Refl,
+    Rewrite,
+    Fact,
+    Expand,
+    Undefined,
+    Tcases,
+    Induction,
+    Fresh,
+    Euf,
+    Collision,
+    Assume,
+    Select,
+    Fa,
+    Atom,
+    IfCase,
+    Deduce,
+    Replace,
+    Prf,
+    Constraints,
+    Congruence,
+    Auto,
+}
+
+static WORDS: [CommandWord; 36] = [
+    CommandWord::Intro,
+    CommandWord::Split,
+    CommandWord::Left,
+    CommandWord::Right,
+    CommandWord::Destruct,
+    CommandWord::Mp,
+    CommandWord::Contra,
+    CommandWord::Spec,
+    CommandWord::Have,
+    CommandWord::Case,
+    CommandWord::Drop,
+    CommandWord::Use,
+    CommandWord::Project,
+    CommandWord::Trace,
+    CommandWord::Assumption,
+    CommandWord::Refl,
+    CommandWord::Rewrite,
+    CommandWord::Fact,
+    CommandWord::Expand,
+    CommandWord::Undefined,
+    CommandWord::Tcases,
+    CommandWord::Induction,
+    CommandWord::Fresh,
+    CommandWord::Euf,
+    CommandWord::Collision,
+    CommandWord::Assume,
+    CommandWord::Select,
+    CommandWord::Fa,
+    CommandWord::Atom,
+    CommandWord::IfCase,
+    CommandWord::Deduce,
+    CommandWord::Replace,
+    CommandWord::Prf,
+    CommandWord::Constraints,
+    CommandWord::Congruence,
+    CommandWord::Auto,
+];
+
+impl CommandWord {
+    /// How the word is written.
+    pub fn text(self) -> &'static str
+        ensures { result.now ≡ spec.command_text self }
+    {
+        match self {
+            CommandWord::Intro => "intro",
+            CommandWord::Split => "split",
+            CommandWord::Left => "left",
+            CommandWord::Right => "right",
+            CommandWord::Destruct => "destruct",
+            CommandWord::Mp => "mp",
+            CommandWord::Contra => "contra",
+            CommandWord::Spec => "spec",
+            CommandWord::Have => "have",
+            CommandWord::Case => "case",
+            CommandWord::Drop => "drop",
+            CommandWord::Use => "use",
+            CommandWord::Project => "project",
+            CommandWord::Trace => "trace",
+            CommandWord::Assumption => "assumption",
+            CommandWord::Refl => "refl",
+            CommandWord::Rewrite => "rewrite",
+            CommandWord::Fact => "fact",
+            CommandWord::Expand => "expand",
+            CommandWord::Undefined => "undefined",
+            CommandWord::Tcases => "tcases",
+            CommandWord::Induction => "induction",
+            CommandWord::Fresh => "fresh",
+            CommandWord::Euf => "euf",
+            CommandWord::Collision => "collision",
+            CommandWord::Assume => "assume",
+            CommandWord::Select => "select",
+            CommandWord::Fa => "fa",
+            CommandWord::Atom => "atom",
+            CommandWord::IfCase => "ifcase",
+            CommandWord::Deduce => "deduce",
+            CommandWord::Replace => "replace",
+            CommandWord::Prf => "prf",
+            CommandWord::Constraints => "constraints",
+            CommandWord::Congruence => "congruence",
+            CommandWord::Auto => "auto",
+        }
+    }
+
+    /// The word that is written so.
+    #[tactic(auto, unfolding(crate::specs::Commands::command_of))]
+    pub fn of(text: &str) -> Option<CommandWord>
+        ensures { result ≡ command_of text.now }
+    {
+        WORDS.iter().copied().find(|w| w.text() == text)
+    }
 }

@@ -138,7 +138,8 @@ impl Formula {
         binders: Seq<Binders>,
         body: Formula,
     ) -> Result<Formula, NoMemory>
-        ensures { IfOk result (λ f. formula_tree f ≡ tree.quantified quantifier binders (formula_tree body)) }
+        ensures { IfOk result (λ f. formula_tree f
+            ≡ tree.quantified quantifier binders (formula_tree body)) }
     {
         let body = Boxed::new(alloc, body)?;
         Ok(match quantifier {
@@ -153,7 +154,8 @@ impl Formula {
         left: Formula,
         right: Formula,
     ) -> Result<Formula, NoMemory>
-        ensures { IfOk result (λ f. formula_tree f ≡ tree.binary word (formula_tree left) (formula_tree right)) }
+        ensures { IfOk result (λ f. formula_tree f
+            ≡ tree.binary word (formula_tree left) (formula_tree right)) }
     {
         let left = Boxed::new(alloc, left)?;
         let right = Boxed::new(alloc, right)?;
@@ -175,7 +177,8 @@ impl Formula {
     }
 
     pub fn pair(alloc: Global, first: Formula, second: Formula) -> Result<Formula, NoMemory>
-        ensures { IfOk result (λ f. formula_tree f ≡ tree.pair (formula_tree first) (formula_tree second)) }
+        ensures { IfOk result (λ f. formula_tree f
+            ≡ tree.pair (formula_tree first) (formula_tree second)) }
     {
         let first = Boxed::new(alloc, first)?;
         Ok(Formula::Pair(first, Boxed::new(alloc, second)?))
@@ -198,7 +201,8 @@ impl Formula {
         yes: Formula,
         no: Formula,
     ) -> Result<Formula, NoMemory>
-        ensures { IfOk result (λ f. formula_tree f ≡ tree.conditional (formula_tree test) (formula_tree yes) (formula_tree no)) }
+        ensures { IfOk result (λ f. formula_tree f
+            ≡ tree.conditional (formula_tree test) (formula_tree yes) (formula_tree no)) }
     {
         let test = Boxed::new(alloc, test)?;
         let yes = Boxed::new(alloc, yes)?;
@@ -212,7 +216,8 @@ impl Formula {
         yes: Formula,
         no: Formula,
     ) -> Result<Formula, NoMemory>
-        ensures { IfOk result (λ f. formula_tree f ≡ tree.find names (formula_tree test) (formula_tree yes) (formula_tree no)) }
+        ensures { IfOk result (λ f. formula_tree f
+            ≡ tree.find names (formula_tree test) (formula_tree yes) (formula_tree no)) }
     {
         let test = Boxed::new(alloc, test)?;
         let yes = Boxed::new(alloc, yes)?;
@@ -220,7 +225,8 @@ impl Formula {
     }
 
     pub fn diff(alloc: Global, left: Formula, right: Formula) -> Result<Formula, NoMemory>
-        ensures { IfOk result (λ f. formula_tree f ≡ tree.diff (formula_tree left) (formula_tree right)) }
+        ensures { IfOk result (λ f. formula_tree f
+            ≡ tree.diff (formula_tree left) (formula_tree right)) }
     {
         let left = Boxed::new(alloc, left)?;
         Ok(Formula::Diff(left, Boxed::new(alloc, right)?))

@@ -6,7 +6,7 @@ mod declaration;
 mod formula;
 mod process;
 
-pub use command::ProofCommand;
+pub use command::{CommandWord, ProofCommand};
 pub use declaration::{Decl, ProcDecl};
 pub use formula::{Binary, Binders, Constant, Form, Formula, MacroWord, Quantifier, Unary};
 pub use process::Proc;

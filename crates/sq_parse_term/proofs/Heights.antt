@@ -1,6 +1,7 @@
 -- A tree has a node.
 use Rattle.std.proofs.Common.{◌≤◌, arith}
-use Rattle.sq_ast.specs.Tree.{FormulaTree, quantified, binary, group, pair, constant, conditional, find, diff, unary, value, name, apply}
+use Rattle.sq_ast.specs.Tree.{FormulaTree, quantified, binary, group, pair, constant, conditional}
+use Rattle.sq_ast.specs.Tree.{find, diff, unary, value, name, apply}
 use Rattle.sq_ast.specs.Deep.{height}
 
 pub positive : (t : FormulaTree) → 1 ≤ height t

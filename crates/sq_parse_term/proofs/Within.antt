@@ -1,5 +1,7 @@
 -- A place with no more tokens behind it than nodes may stand around it does not run deep. So no list has two trees.
-use Rattle.std.proofs.Common.{◌≡◌, ℕ, zero, suc, ◌<◌, ◌≤◌, Bool, true, false, cond, nat_eq, List, [], ◌∷◌, length, Option, Some, None, sym, ap, ◌∙◌, subst, arith, length-append, inl, inr}
+use Rattle.std.proofs.Common.{◌≡◌, ℕ, zero, suc, ◌<◌, ◌≤◌, Bool, true, false, cond, nat_eq, List}
+use Rattle.std.proofs.Common.{[], ◌∷◌, length, Option, Some, None, sym, ap, ◌∙◌, subst, arith}
+use Rattle.std.proofs.Common.{length-append, inl, inr}
 use Rattle.std.specs.Prelude.{⊤}
 use Rattle.std.proofs.lemmas.List.{append-nil}
 use Rattle.sq_token.specs.declared.kind.Punctuation.{Punctuation}
@@ -14,10 +16,17 @@ use Rattle.sq_ast.specs.declared.formula.Unary.TheVariants.{Pred}
 use Rattle.sq_parse_term.specs.declared.words.Start.{Start}
 use Rattle.sq_parse_term.specs.declared.words.Start.TheVariants as start
 use Rattle.sq_ast.specs.Tree.{FormulaTree, binary, FormulaTrees, more}
-use Rattle.sq_ast.specs.Grammar.{names_spelled, groups_spelled, spelled, rank, binary_rank, operand_form, Is}
-use Rattle.sq_ast.specs.Deep.{Alternative, quantification, grouping, pairing, condition, finding, difference, call, valuation, Element, token, part, elements}
-use Rattle.sq_parse_term.specs.Parse.{Read, deep, none, got, bind, recover, eat, comma, identifiers, binders, binary_of, start_of, build, run, alternative, formulas, arguments, applied, found, quantifying, begun, marked, term, joined, continued, ranked, formula_at, formula, action, time_at, time, any, parse}
-use Rattle.sq_parse_term.proofs.Outcomes.{Holds, Finds, bind_holds, recover_holds, weaken, eat_never}
+use Rattle.sq_ast.specs.Grammar.{names_spelled, groups_spelled, spelled, rank, binary_rank}
+use Rattle.sq_ast.specs.Grammar.{operand_form, Is}
+use Rattle.sq_ast.specs.Deep.{Alternative, quantification, grouping, pairing, condition, finding}
+use Rattle.sq_ast.specs.Deep.{difference, call, valuation, Element, token, part, elements}
+use Rattle.sq_parse_term.specs.Parse.{Read, deep, none, got, bind, recover, eat, comma, identifiers}
+use Rattle.sq_parse_term.specs.Parse.{binders, binary_of, start_of, build, run, alternative}
+use Rattle.sq_parse_term.specs.Parse.{formulas, arguments, applied, found, quantifying, begun}
+use Rattle.sq_parse_term.specs.Parse.{marked, term, joined, continued, ranked, formula_at, formula}
+use Rattle.sq_parse_term.specs.Parse.{action, time_at, time, any, parse}
+use Rattle.sq_parse_term.proofs.Outcomes.{Holds, Finds, bind_holds, recover_holds, weaken}
+use Rattle.sq_parse_term.proofs.Outcomes.{eat_never}
 use Rattle.sq_parse_term.proofs.Sound.{identifiers_never, binders_never, action_never}
 use Rattle.sq_parse_term.proofs.Complete.{Ahead, parse_finds}
 
@@ -29,60 +38,79 @@ eat_within : (s : Sign) (ts : List Sign) → Within ts (eat s ts)
 eat_within s ts = weaken ⊥ ⊤ _ _ (eat s ts) (eat_never s ts) (λ u q e. omega (arith, ap length e))
 
 identifiers_within : (ts : List Sign) → Within ts (identifiers ts)
-identifiers_within ts = weaken ⊥ ⊤ _ _ (identifiers ts) (identifiers_never ts) (λ ns q h. omega (arith, ap length h.1, length-append (names_spelled ns) q))
+identifiers_within ts = weaken ⊥ ⊤ _ _ (identifiers ts) (identifiers_never ts)
+    (λ ns q h. omega (arith, ap length h.1, length-append (names_spelled ns) q))
 
 binders_within : (ts : List Sign) → Within ts (binders ts)
-binders_within ts = weaken ⊥ ⊤ _ _ (binders ts) (binders_never ts) (λ gs q h. omega (arith, ap length h.1, length-append (groups_spelled gs) q))
+binders_within ts = weaken ⊥ ⊤ _ _ (binders ts) (binders_never ts)
+    (λ gs q h. omega (arith, ap length h.1, length-append (groups_spelled gs) q))
 
 action_within : (n : List ℕ) (ts : List Sign) → Within (word n ∷ ts) (action n ts)
-action_within n ts = weaken ⊥ ⊤ _ _ (action n ts) (action_never n ts) (λ t q h. omega (arith, ap length h.split, length-append (spelled t) q))
+action_within n ts = weaken ⊥ ⊤ _ _ (action n ts) (action_never n ts)
+    (λ t q h. omega (arith, ap length h.split, length-append (spelled t) q))
 
 -- a step, and then another
-then : {A B : Type 0} (ts : List Sign) (m : Read A) (f : A → List Sign → Read B) → Within ts m → ((a : A) (q : List Sign) → length q ≤ length ts → Within ts (f a q)) → Within ts (bind m f)
+then : {A B : Type 0} (ts : List Sign) (m : Read A) (f : A → List Sign → Read B) → Within ts m
+    → ((a : A) (q : List Sign) → length q ≤ length ts → Within ts (f a q)) → Within ts (bind m f)
 then ts m f h g = bind_holds ⊥ ⊤ _ _ m f h g
 
-further : {A : Type 0} (ts q : List Sign) (m : Read A) → length q ≤ length ts → Within q m → Within ts m
+further : {A : Type 0} (ts q : List Sign) (m : Read A) → length q ≤ length ts → Within q m
+    → Within ts m
 further ts q deep h w = w
 further ts q none h w = w
 further ts q (got a v) h w = omega arith
 
-module _ (P : Form → List Sign → Read FormulaTree) (d : ℕ) (within : (f : Form) (ts : List Sign) → length ts < d → Within ts (P f ts)) where
-  run_within : (es : List Element) (k : FormulaTrees → FormulaTree) (ts : List Sign) → length ts < d → Within ts (run P es k ts)
+module _ (P : Form → List Sign → Read FormulaTree) (d : ℕ)
+    (within : (f : Form) (ts : List Sign) → length ts < d → Within ts (P f ts)) where
+  run_within : (es : List Element) (k : FormulaTrees → FormulaTree) (ts : List Sign) → length ts < d
+      → Within ts (run P es k ts)
   unfolding run
   run_within [] k ts lt = omega arith
-  run_within (token s ∷ es) k ts lt = then ts (eat s ts) _ (eat_within s ts) (λ u q h. further ts q _ h (run_within es k q (omega arith)))
-  run_within (part f ∷ es) k ts lt = then ts (P f ts) _ (within f ts lt) (λ a q h. further ts q _ h (run_within es (λ xs. k (more a xs)) q (omega arith)))
+  run_within (token s ∷ es) k ts lt = then ts (eat s ts) _ (eat_within s ts)
+      (λ u q h. further ts q _ h (run_within es k q (omega arith)))
+  run_within (part f ∷ es) k ts lt = then ts (P f ts) _ (within f ts lt)
+      (λ a q h. further ts q _ h (run_within es (λ xs. k (more a xs)) q (omega arith)))
 
-  alternative_within : (a : Alternative) (ts : List Sign) → length ts < d → Within ts (alternative P a ts)
+  alternative_within : (a : Alternative) (ts : List Sign) → length ts < d
+      → Within ts (alternative P a ts)
   alternative_within a ts lt = run_within (elements a) (build a) ts lt
 
   formulas_within : (m : ℕ) (ts : List Sign) → length ts < d → Within ts (formulas P m ts)
   unfolding formulas
   formulas_within zero ts lt = tt
-  formulas_within (suc m) ts lt = then ts (P form.Formula ts) _ (within form.Formula ts lt) (λ a q h.
-      recover_holds ⊥ ⊤ (λ u v. length v ≤ length ts) _ ⊤ (comma q) _ _ (further ts q _ h (eat_within (mark p.Comma) q))
-      (λ u v i. then ts (formulas P m v) _ (further ts v _ i (formulas_within m v (omega arith))) (λ xs y j. j))
+  formulas_within (suc m) ts lt = then ts (P form.Formula ts) _ (within form.Formula ts lt)
+      (λ a q h.
+      recover_holds ⊥ ⊤ (λ u v. length v ≤ length ts) _ ⊤ (comma q) _ _
+      (further ts q _ h (eat_within (mark p.Comma) q))
+      (λ u v i. then ts (formulas P m v) _ (further ts v _ i (formulas_within m v (omega arith)))
+      (λ xs y j. j))
       h)
 
   arguments_within : (ts : List Sign) → length ts < d → Within ts (arguments P ts)
   arguments_within ts lt =
       then ts (eat (mark p.OpenParenthesis) ts) _ (eat_within (mark p.OpenParenthesis) ts) (λ u q h.
-      then ts (formulas P (suc (length q)) q) _ (further ts q _ h (formulas_within (suc (length q)) q (omega arith))) (λ xs v i.
-      then ts (eat (mark p.CloseParenthesis) v) _ (further ts v _ i (eat_within (mark p.CloseParenthesis) v)) (λ w y j. j)))
+      then ts (formulas P (suc (length q)) q) _
+      (further ts q _ h (formulas_within (suc (length q)) q (omega arith))) (λ xs v i.
+      then ts (eat (mark p.CloseParenthesis) v) _
+      (further ts v _ i (eat_within (mark p.CloseParenthesis) v)) (λ w y j. j)))
 
   applied_within : (n : List ℕ) (ts : List Sign) → length ts < d → Within ts (applied P n ts)
   unfolding applied
-  applied_within n ts lt = recover_holds ⊥ ⊤ (λ xs q. length q ≤ length ts) _ ⊤ (arguments P ts) _ _ (arguments_within ts lt) (λ xs q h. h) (omega arith)
+  applied_within n ts lt = recover_holds ⊥ ⊤ (λ xs q. length q ≤ length ts) _ ⊤
+      (arguments P ts) _ _ (arguments_within ts lt) (λ xs q h. h) (omega arith)
 
   found_within : (ts : List Sign) → length ts < d → Within ts (found P ts)
   unfolding found
-  found_within ts lt = then ts (identifiers ts) _ (identifiers_within ts) (λ ns q h. further ts q _ h (alternative_within (finding ns) q (omega arith)))
+  found_within ts lt = then ts (identifiers ts) _ (identifiers_within ts)
+      (λ ns q h. further ts q _ h (alternative_within (finding ns) q (omega arith)))
 
-  quantifying_within : (k : Quantifier) (ts : List Sign) → length ts < d → Within ts (quantifying P k ts)
+  quantifying_within : (k : Quantifier) (ts : List Sign) → length ts < d
+      → Within ts (quantifying P k ts)
   unfolding quantifying
   quantifying_within k ts lt =
       then ts (eat (mark p.OpenParenthesis) ts) _ (eat_within (mark p.OpenParenthesis) ts) (λ u q h.
-      then ts (binders q) _ (further ts q _ h (binders_within q)) (λ gs v i. further ts v _ i (alternative_within (quantification k gs) v (omega arith))))
+      then ts (binders q) _ (further ts q _ h (binders_within q))
+      (λ gs v i. further ts v _ i (alternative_within (quantification k gs) v (omega arith))))
 
   begun_within : (o : Option Start) (q : List Sign) → length q < d → Within q (begun P o q)
   begun_within None q lt = tt
@@ -102,12 +130,16 @@ module _ (P : Form → List Sign → Read FormulaTree) (d : ℕ) (within : (f : 
   term_within : (ts : List Sign) → length ts < suc d → Within ts (term P ts)
   unfolding term
   term_within [] lt = tt
-  term_within (word w ∷ q) lt = further (word w ∷ q) q _ (omega arith) (applied_within w q (omega arith))
+  term_within (word w ∷ q) lt = further (word w ∷ q) q _ (omega arith)
+      (applied_within w q (omega arith))
   term_within (number n ∷ q) lt = tt
-  term_within (reserved w ∷ q) lt = further (reserved w ∷ q) q _ (omega arith) (begun_within (start_of w) q (omega arith))
-  term_within (mark i ∷ q) lt = further (mark i ∷ q) q _ (omega arith) (marked_within i q (omega arith))
+  term_within (reserved w ∷ q) lt = further (reserved w ∷ q) q _ (omega arith)
+      (begun_within (start_of w) q (omega arith))
+  term_within (mark i ∷ q) lt = further (mark i ∷ q) q _ (omega arith)
+      (marked_within i q (omega arith))
 
-  continued_within : (l : ℕ) (a : FormulaTree) (ts : List Sign) → length ts < suc d → Within ts (continued P l a ts)
+  continued_within : (l : ℕ) (a : FormulaTree) (ts : List Sign) → length ts < suc d
+      → Within ts (continued P l a ts)
   unfolding continued
   continued_within l a [] lt = omega arith
   continued_within l a (word w ∷ q) lt = omega arith
@@ -115,8 +147,12 @@ module _ (P : Form → List Sign → Read FormulaTree) (d : ℕ) (within : (f : 
   continued_within l a (reserved w ∷ q) lt = omega arith
   continued_within l a (mark i ∷ q) lt = by (binary_of i)
     where
-      by_rank : (o : Binary) (b : Bool) → Within (mark i ∷ q) (cond b (recover (P (operand_form o) q) (λ b v. got (binary o a b) v) (got a (mark i ∷ q))) (got a (mark i ∷ q)))
-      by_rank o true = recover_holds ⊥ ⊤ (λ b v. length v ≤ length q) _ ⊤ (P (operand_form o) q) _ _ (within (operand_form o) q (omega arith)) (λ b v h. omega arith) (omega arith)
+      by_rank : (o : Binary) (b : Bool)
+          → Within (mark i ∷ q) (cond b (recover (P (operand_form o) q)
+          (λ b v. got (binary o a b) v) (got a (mark i ∷ q))) (got a (mark i ∷ q)))
+      by_rank o true = recover_holds ⊥ ⊤ (λ b v. length v ≤ length q) _ ⊤
+          (P (operand_form o) q) _ _ (within (operand_form o) q (omega arith))
+          (λ b v h. omega arith) (omega arith)
       by_rank o false = omega arith
 
       by : (w : Option Binary) → Within (mark i ∷ q) (joined P l a i q w)
@@ -126,7 +162,8 @@ module _ (P : Form → List Sign → Read FormulaTree) (d : ℕ) (within : (f : 
   ranked_within : (l : ℕ) (ts : List Sign) → length ts < suc d → Within ts (ranked P l ts)
   unfolding ranked
   ranked_within zero ts lt = term_within ts lt
-  ranked_within (suc l) ts lt = then ts (ranked P l ts) _ (ranked_within l ts lt) (λ a q h. further ts q _ h (continued_within (suc l) a q (omega arith)))
+  ranked_within (suc l) ts lt = then ts (ranked P l ts) _ (ranked_within l ts lt)
+      (λ a q h. further ts q _ h (continued_within (suc l) a q (omega arith)))
 
   formula_within : (ts : List Sign) → length ts < suc d → Within ts (formula P ts)
   unfolding formula
@@ -137,7 +174,8 @@ module _ (P : Form → List Sign → Read FormulaTree) (d : ℕ) (within : (f : 
   formula_within (reserved w ∷ q) lt = by (start_of w)
     where
       by : (o : Option Start) → Within (reserved w ∷ q) (formula_at P w q o)
-      by (Some (start.Quantifier k)) = further (reserved w ∷ q) q _ (omega arith) (quantifying_within k q (omega arith))
+      by (Some (start.Quantifier k)) = further (reserved w ∷ q) q _ (omega arith)
+          (quantifying_within k q (omega arith))
       by _ = ranked_within 4 (reserved w ∷ q) lt
 
   time_at_within : (o : Option Start) (q : List Sign) → length q < d → Within q (time_at P o q)
@@ -151,7 +189,8 @@ module _ (P : Form → List Sign → Read FormulaTree) (d : ℕ) (within : (f : 
   time_within (word w ∷ q) lt = action_within w q
   time_within (number n ∷ q) lt = tt
   time_within (mark i ∷ q) lt = tt
-  time_within (reserved w ∷ q) lt = further (reserved w ∷ q) q _ (omega arith) (time_at_within (start_of w) q (omega arith))
+  time_within (reserved w ∷ q) lt = further (reserved w ∷ q) q _ (omega arith)
+      (time_at_within (start_of w) q (omega arith))
 
   any_within : (f : Form) (ts : List Sign) → length ts < suc d → Within ts (any P f ts)
   unfolding any
@@ -167,7 +206,8 @@ unfolding parse
 parse_within zero f ts lt = absurd (omega arith)
 parse_within (suc d) f ts lt = any_within (parse d) d (parse_within d) f ts lt
 
-both : (l : ℕ) (t u : FormulaTree) (ts : List Sign) (m : Read FormulaTree) → Within ts m → Finds (Ahead l t []) m → Finds (Ahead l u []) m → t ≡ u
+both : (l : ℕ) (t u : FormulaTree) (ts : List Sign) (m : Read FormulaTree) → Within ts m
+    → Finds (Ahead l t []) m → Finds (Ahead l u []) m → t ≡ u
 both l t u ts deep w f g = absurd w
 both l t u ts none w f g = absurd f
 both l t u ts (got a q) w (inl f) (inl g) = sym f.0 ∙ g.0
@@ -179,5 +219,6 @@ pub one_tree : (f : Form) (t u : FormulaTree) (ts : List Sign) → Is f t ts →
 one_tree f t u ts h i =
     let d = suc (length ts) in
     let at : (v : FormulaTree) → Is f v ts → Finds (Ahead (rank f) v []) (parse d f ts) = λ v j.
-    subst (λ z. Finds (Ahead (rank f) v []) (parse d f z)) (append-nil (spelled v) ∙ sym j.spelled_is) (parse_finds d f v [] j.form_is j.built) in
+    subst (λ z. Finds (Ahead (rank f) v []) (parse d f z))
+    (append-nil (spelled v) ∙ sym j.spelled_is) (parse_finds d f v [] j.form_is j.built) in
     both (rank f) t u ts (parse d f ts) (parse_within d f ts (omega arith)) (at t h) (at u i)

@@ -19,4 +19,5 @@ pub record HasNone (ts : List Sign) : Type 0 where
 -- the place runs deep, or the longest formula is too deep
 pub data IsTooDeep (ts : List Sign) : Type 0 where
   place : RunsDeep 256 Formula ts → IsTooDeep ts
-  tree : (t : FormulaTree) (q : List Sign) → IsLongest Formula ts t q → 256 < height t → IsTooDeep ts
+  tree : (t : FormulaTree) (q : List Sign) → IsLongest Formula ts t q → 256 < height t
+      → IsTooDeep ts

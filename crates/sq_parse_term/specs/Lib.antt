@@ -1,4 +1,5 @@
 pub mod Parse
 pub mod Reads
 pub mod Answers
+pub mod Lists
 pub mod Ended

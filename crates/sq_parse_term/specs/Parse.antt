@@ -1,5 +1,6 @@
 -- Reading a tree from the front of a list of tokens.
-use Rattle.std.specs.Prelude.{ℕ, zero, suc, Bool, false, if◌then◌else◌, nat_eq, List, [], ◌∷◌, length, Option, Some, None}
+use Rattle.std.specs.Prelude.{ℕ, zero, suc, Bool, false, if◌then◌else◌, nat_eq, List, [], ◌∷◌}
+use Rattle.std.specs.Prelude.{length, Option, Some, None}
 use Rattle.std.specs.Str.{bytes_eq}
 use denote.Enum.Bare.{sameb}
 use Rattle.sq_base.specs.declared.sort.Sort.{Sort}
@@ -16,16 +17,20 @@ use Rattle.sq_ast.specs.declared.formula.Form.TheVariants as form
 use Rattle.sq_ast.specs.declared.formula.Quantifier.{Quantifier}
 use Rattle.sq_ast.specs.declared.formula.Quantifier.TheVariants.{Forall, Exists}
 use Rattle.sq_ast.specs.declared.formula.Binary.{Binary}
-use Rattle.sq_ast.specs.declared.formula.Binary.TheVariants.{Implies, Or, And, Equal, NotEqual, LessEqual, Less}
+use Rattle.sq_ast.specs.declared.formula.Binary.TheVariants.{Implies, Or, And, Equal, NotEqual}
+use Rattle.sq_ast.specs.declared.formula.Binary.TheVariants.{LessEqual, Less}
 use Rattle.sq_ast.specs.declared.formula.Constant.TheVariants.{True, False, Empty, Init}
 use Rattle.sq_ast.specs.declared.formula.Unary.TheVariants.{Not, Fst, Snd, OfBool, Happens, Pred}
 use Rattle.sq_ast.specs.declared.formula.MacroWord.TheVariants.{Input, Output, Cond, Exec, Frame}
 use Rattle.sq_parse_term.specs.declared.words.Start.{Start}
 use Rattle.sq_parse_term.specs.declared.words.Start.TheVariants as start
-use Rattle.sq_ast.specs.Tree.{Group, FormulaTree, quantified, binary, group, pair, constant, conditional, find, diff, unary, value, name, apply, FormulaTrees, more}
+use Rattle.sq_ast.specs.Tree.{Group, FormulaTree, quantified, binary, group, pair, constant}
+use Rattle.sq_ast.specs.Tree.{conditional, find, diff, unary, value, name, apply, FormulaTrees}
+use Rattle.sq_ast.specs.Tree.{more}
 use Rattle.sq_ast.specs.Tree as tree
 use Rattle.sq_ast.specs.Grammar.{binary_rank, operand_form}
-use Rattle.sq_ast.specs.Deep.{Alternative, quantification, grouping, pairing, condition, finding, difference, call, valuation, Element, token, part, elements}
+use Rattle.sq_ast.specs.Deep.{Alternative, quantification, grouping, pairing, condition, finding}
+use Rattle.sq_ast.specs.Deep.{difference, call, valuation, Element, token, part, elements}
 
 -- the place runs deep, nothing begins there, or this does and what is behind it
 pub data Read (A : Type 0) : Type 0 where
@@ -85,13 +90,16 @@ sort_name _ = none
 module _ {A : Type 0} (one : List Sign → Read A) where
   unfoldable pub listed : ℕ → List Sign → Read (List A)
   listed zero ts = none
-  listed (suc m) ts = bind (one ts) (λ a q. recover (comma q) (λ _ u. bind (listed m u) (λ xs v. got (a ∷ xs) v)) (got (a ∷ []) q))
+  listed (suc m) ts = bind (one ts)
+      (λ a q. recover (comma q) (λ _ u. bind (listed m u) (λ xs v. got (a ∷ xs) v))
+      (got (a ∷ []) q))
 
 abbrev pub identifiers : List Sign → Read (List (List ℕ))
 identifiers ts = listed identifier (length ts) ts
 
 abbrev pub binder_group : List Sign → Read Group
-binder_group ts = bind (identifiers ts) (λ ns q. bind (eat (mark p.Colon) q) (λ _ u. bind (sort_name u) (λ s v. got (ns, s) v)))
+binder_group ts = bind (identifiers ts)
+    (λ ns q. bind (eat (mark p.Colon) q) (λ _ u. bind (sort_name u) (λ s v. got (ns, s) v)))
 
 abbrev pub binders : List Sign → Read (List Group)
 binders ts = listed binder_group (length ts) ts
@@ -148,7 +156,8 @@ named [] = tree.none
 named (n ∷ ns) = more (name n) (named ns)
 
 abbrev pub instance : List Sign → Read (List (List ℕ))
-instance ts = bind (eat (mark p.OpenParenthesis) ts) (λ _ q. bind (identifiers q) (λ ns u. bind (eat (mark p.CloseParenthesis) u) (λ _ v. got ns v)))
+instance ts = bind (eat (mark p.OpenParenthesis) ts)
+    (λ _ q. bind (identifiers q) (λ ns u. bind (eat (mark p.CloseParenthesis) u) (λ _ v. got ns v)))
 
 unfoldable pub action : List ℕ → List Sign → Read FormulaTree
 action n ts = recover (instance ts) (λ ns q. got (apply n (named ns)) q) (got (name n) ts)
@@ -169,10 +178,14 @@ module _ (P : Form → List Sign → Read FormulaTree) where
   -- formulas with commas between
   unfoldable pub formulas : ℕ → List Sign → Read FormulaTrees
   formulas zero ts = none
-  formulas (suc m) ts = bind (P form.Formula ts) (λ a q. recover (comma q) (λ _ u. bind (formulas m u) (λ xs v. got (more a xs) v)) (got (more a tree.none) q))
+  formulas (suc m) ts = bind (P form.Formula ts)
+      (λ a q. recover (comma q) (λ _ u. bind (formulas m u) (λ xs v. got (more a xs) v))
+      (got (more a tree.none) q))
 
   abbrev pub arguments : List Sign → Read FormulaTrees
-  arguments ts = bind (eat (mark p.OpenParenthesis) ts) (λ _ q. bind (formulas (suc (length q)) q) (λ xs u. bind (eat (mark p.CloseParenthesis) u) (λ _ v. got xs v)))
+  arguments ts = bind (eat (mark p.OpenParenthesis) ts)
+      (λ _ q. bind (formulas (suc (length q)) q)
+      (λ xs u. bind (eat (mark p.CloseParenthesis) u) (λ _ v. got xs v)))
 
   unfoldable pub applied : List ℕ → List Sign → Read FormulaTree
   applied n ts = recover (arguments ts) (λ xs q. got (apply n xs) q) (got (name n) ts)
@@ -181,7 +194,8 @@ module _ (P : Form → List Sign → Read FormulaTree) where
   found ts = bind (identifiers ts) (λ ns q. alternative (finding ns) q)
 
   unfoldable pub quantifying : Quantifier → List Sign → Read FormulaTree
-  quantifying k ts = bind (eat (mark p.OpenParenthesis) ts) (λ _ q. bind (binders q) (λ gs u. alternative (quantification k gs) u))
+  quantifying k ts = bind (eat (mark p.OpenParenthesis) ts)
+      (λ _ q. bind (binders q) (λ gs u. alternative (quantification k gs) u))
 
   abbrev pub begun : Option Start → List Sign → Read FormulaTree
   begun None q = none
@@ -207,7 +221,10 @@ module _ (P : Form → List Sign → Read FormulaTree) where
 
   abbrev pub joined : ℕ → FormulaTree → Punctuation → List Sign → Option Binary → Read FormulaTree
   joined l a i q None = got a (mark i ∷ q)
-  joined l a i q (Some o) = if nat_eq (binary_rank o) l then recover (P (operand_form o) q) (λ b u. got (binary o a b) u) (got a (mark i ∷ q)) else got a (mark i ∷ q)
+  joined l a i q (Some o) =
+      if nat_eq (binary_rank o) l
+      then recover (P (operand_form o) q) (λ b u. got (binary o a b) u) (got a (mark i ∷ q))
+      else got a (mark i ∷ q)
 
   -- behind a, an operator of the rank and its right operand
   unfoldable pub continued : ℕ → FormulaTree → List Sign → Read FormulaTree

@@ -61,7 +61,8 @@ fn one_fits(a: &Formula, room: usize) -> bool
 #[cycle(fits)]
 fn two_fit(a: &Formula, b: &Formula, room: usize) -> bool
     requires { 0 < room }
-    ensures { IsTrue result ↔ (1 + max (height (formula_tree a.now)) (height (formula_tree b.now)) ≤ room) }
+    ensures { IsTrue result ↔ (1 + max (height (formula_tree a.now))
+        (height (formula_tree b.now)) ≤ room) }
 {
     fits(a, room - 1) && fits(b, room - 1)
 }
@@ -69,13 +70,15 @@ fn two_fit(a: &Formula, b: &Formula, room: usize) -> bool
 #[cycle(fits)]
 fn three_fit(a: &Formula, b: &Formula, c: &Formula, room: usize) -> bool
     requires { 0 < room }
-    ensures { IsTrue result ↔ (1 + max (height (formula_tree a.now)) (max (height (formula_tree b.now)) (height (formula_tree c.now))) ≤ room) }
+    ensures { IsTrue result ↔ (1 + max (height (formula_tree a.now))
+        (max (height (formula_tree b.now)) (height (formula_tree c.now))) ≤ room) }
 {
     fits(a, room - 1) && fits(b, room - 1) && fits(c, room - 1)
 }
 
+/// Whether at most this many nodes of each tree stand one inside the other.
 #[cycle(fits)]
-fn all_fit(formulas: &[Formula], room: usize) -> bool
+pub fn all_fit(formulas: &[Formula], room: usize) -> bool
     ensures { IsTrue result ↔ (heights (formula_trees formulas.now) ≤ room) }
 {
     for formula in formulas {

@@ -1,158 +1,125 @@
-// The forms of a formula from the tightest to the loosest, over the parser `part` of what stands
-// inside them and behind an operator.
+// The forms of a formula from the tightest to the loosest.
 ghost use Rattle.std.specs.Prelude.{◌≡◌, ◌≤◌};
 ghost use Rattle.sq_token.specs.Sign.{signs};
 ghost use Rattle.sq_ast.specs.View.{formula_tree};
-ghost use Rattle.sq_parse_term.specs.Parse as p;
+ghost use Rattle.sq_parse_term.specs.Parse as spec;
 ghost use Rattle.sq_parse_term.specs.Reads.{Reads, Parses};
 
-use crate::alternatives::{
-    applied, called, conditional, difference, found, grouped, paired, quantifying, read_part,
-    valued,
-};
-use crate::tokens::Found;
+use crate::parts::Parts;
+use crate::stop::{Found, Stop};
 use crate::words::{Start, binary_of, binary_rank, operand_form, start_of};
 use sq_ast::{Form, Formula};
 use sq_token::{Punctuation, Token, TokenKind};
 use std::alloc::Global;
 
-/// The term that begins so.
-pub fn begun<'a, F: Fn(Global, usize, Form, &'a [Token]) -> Found<'a, Formula>>(
-    alloc: Global,
-    part: &F,
-    depth: usize,
-    start: Option<Start>,
-    tokens: &'a [Token],
-) -> Found<'a, Formula>
-    requires { Parses depth (F.pre part.now) (F.post part.now) }
-    ensures { Reads formula_tree result (p.begun (p.parse depth) start (signs tokens.now)) }
-{
-    match start {
-        None => Ok(None),
-        Some(Start::Quantifier(_)) => Ok(None),
-        Some(Start::Constant(constant)) => Ok(Some((Formula::constant(constant), tokens))),
-        Some(Start::Unary(unary)) => called(alloc, part, depth, unary, tokens),
-        Some(Start::Macro(word)) => valued(alloc, part, depth, word, tokens),
-        Some(Start::If) => conditional(alloc, part, depth, tokens),
-        Some(Start::Find) => found(alloc, part, depth, tokens),
-        Some(Start::Diff) => difference(alloc, part, depth, tokens),
+impl<'a, F: Fn(Global, usize, Form, &'a [Token]) -> Found<'a, Formula>> Parts<F> {
+    /// The term that begins so.
+    pub fn begun(&self, start: Option<Start>, tokens: &'a [Token]) -> Found<'a, Formula>
+        requires { Parses self.now.depth (F.pre self.now.parser) (F.post self.now.parser) }
+        ensures { Reads formula_tree result
+            (spec.begun (spec.parse self.now.depth) start (signs tokens.now)) }
+    {
+        match start {
+            None => Err(Stop::None),
+            Some(Start::Quantifier(_)) => Err(Stop::None),
+            Some(Start::Constant(constant)) => Ok((Formula::constant(constant), tokens)),
+            Some(Start::Unary(word)) => self.call(word, tokens),
+            Some(Start::Macro(word)) => self.valuation(word, tokens),
+            Some(Start::If) => self.conditional(tokens),
+            Some(Start::Find) => self.find(tokens),
+            Some(Start::Diff) => self.difference(tokens),
+        }
     }
-}
 
-/// The term that the symbol begins.
-pub fn marked<'a, F: Fn(Global, usize, Form, &'a [Token]) -> Found<'a, Formula>>(
-    alloc: Global,
-    part: &F,
-    depth: usize,
-    symbol: Punctuation,
-    tokens: &'a [Token],
-) -> Found<'a, Formula>
-    requires { Parses depth (F.pre part.now) (F.post part.now) }
-    ensures { Reads formula_tree result (p.marked (p.parse depth) symbol (signs tokens.now)) }
-{
-    match symbol {
-        Punctuation::OpenParenthesis => grouped(alloc, part, depth, tokens),
-        Punctuation::Less => paired(alloc, part, depth, tokens),
-        _ => Ok(None),
+    /// The term that the symbol begins.
+    pub fn marked(&self, symbol: Punctuation, tokens: &'a [Token]) -> Found<'a, Formula>
+        requires { Parses self.now.depth (F.pre self.now.parser) (F.post self.now.parser) }
+        ensures { Reads formula_tree result
+            (spec.marked (spec.parse self.now.depth) symbol (signs tokens.now)) }
+    {
+        match symbol {
+            Punctuation::OpenParenthesis => self.group(tokens),
+            Punctuation::Less => self.pair(tokens),
+            _ => Err(Stop::None),
+        }
     }
-}
 
-#[tactic(auto, unfolding(crate::specs::Parse::term))]
-pub fn term<'a, F: Fn(Global, usize, Form, &'a [Token]) -> Found<'a, Formula>>(
-    alloc: Global,
-    part: &F,
-    depth: usize,
-    tokens: &'a [Token],
-) -> Found<'a, Formula>
-    requires { Parses depth (F.pre part.now) (F.post part.now) }
-    ensures { Reads formula_tree result (p.term (p.parse depth) (signs tokens.now)) }
-{
-    let Some((token, rest)) = tokens.split_first() else {
-        return Ok(None);
-    };
-    match token.kind {
-        TokenKind::Identifier => applied(alloc, part, depth, &token.text, rest),
-        TokenKind::Number => Ok(None),
-        TokenKind::Reserved(word) => begun(alloc, part, depth, start_of(word), rest),
-        TokenKind::Punctuation(symbol) => marked(alloc, part, depth, symbol, rest),
-    }
-}
-
-/// The left operand with an operator of the rank and its right operand, if they stand there.
-#[tactic(auto, unfolding(crate::specs::Parse::continued))]
-pub fn continued<'a, F: Fn(Global, usize, Form, &'a [Token]) -> Found<'a, Formula>>(
-    alloc: Global,
-    part: &F,
-    depth: usize,
-    rank: u8,
-    left: Formula,
-    tokens: &'a [Token],
-) -> Found<'a, Formula>
-    requires { Parses depth (F.pre part.now) (F.post part.now) }
-    ensures { Reads formula_tree result (p.continued (p.parse depth) rank (formula_tree left) (signs tokens.now)) }
-{
-    let Some((token, rest)) = tokens.split_first() else {
-        return Ok(Some((left, tokens)));
-    };
-    let TokenKind::Punctuation(symbol) = token.kind else {
-        return Ok(Some((left, tokens)));
-    };
-    let Some(operator) = binary_of(symbol) else {
-        return Ok(Some((left, tokens)));
-    };
-    if binary_rank(operator) != rank {
-        return Ok(Some((left, tokens)));
-    }
-    match read_part(alloc, part, depth, operand_form(operator), rest)? {
-        Some((right, end)) => Ok(Some((Formula::binary(alloc, operator, left, right)?, end))),
-        None => Ok(Some((left, tokens))),
-    }
-}
-
-/// A form by its rank: a term, and then what each looser form adds behind it.
-#[tactic(auto, unfolding(crate::specs::Parse::ranked))]
-pub fn ranked<'a, F: Fn(Global, usize, Form, &'a [Token]) -> Found<'a, Formula>>(
-    alloc: Global,
-    part: &F,
-    depth: usize,
-    rank: u8,
-    tokens: &'a [Token],
-) -> Found<'a, Formula>
-    requires callable { Parses depth (F.pre part.now) (F.post part.now) }
-    requires rank { rank ≤ 4 }
-    ensures { Reads formula_tree result (p.ranked (p.parse depth) rank (signs tokens.now)) }
-{
-    let Some((mut left, mut rest)) = term(alloc, part, depth, tokens)? else {
-        return Ok(None);
-    };
-    for below in 0..rank {
-        let Some((longer, end)) = continued(alloc, part, depth, below + 1, left, rest)? else {
-            return Ok(None);
+    #[tactic(auto, unfolding(crate::specs::Parse::term))]
+    pub fn term(&self, tokens: &'a [Token]) -> Found<'a, Formula>
+        requires { Parses self.now.depth (F.pre self.now.parser) (F.post self.now.parser) }
+        ensures { Reads formula_tree result
+            (spec.term (spec.parse self.now.depth) (signs tokens.now)) }
+    {
+        let Some((token, rest)) = tokens.split_first() else {
+            return Err(Stop::None);
         };
-        left = longer;
-        rest = end;
+        match token.kind {
+            TokenKind::Identifier => self.application(&token.text, rest),
+            TokenKind::Number => Err(Stop::None),
+            TokenKind::Reserved(word) => self.begun(start_of(word), rest),
+            TokenKind::Punctuation(symbol) => self.marked(symbol, rest),
+        }
     }
-    Ok(Some((left, rest)))
-}
 
-#[tactic(auto, unfolding(crate::specs::Parse::formula))]
-pub fn formula<'a, F: Fn(Global, usize, Form, &'a [Token]) -> Found<'a, Formula>>(
-    alloc: Global,
-    part: &F,
-    depth: usize,
-    tokens: &'a [Token],
-) -> Found<'a, Formula>
-    requires { Parses depth (F.pre part.now) (F.post part.now) }
-    ensures { Reads formula_tree result (p.formula (p.parse depth) (signs tokens.now)) }
-{
-    let Some((token, rest)) = tokens.split_first() else {
-        return ranked(alloc, part, depth, 4, tokens);
-    };
-    let TokenKind::Reserved(word) = token.kind else {
-        return ranked(alloc, part, depth, 4, tokens);
-    };
-    match start_of(word) {
-        Some(Start::Quantifier(quantifier)) => quantifying(alloc, part, depth, quantifier, rest),
-        _ => ranked(alloc, part, depth, 4, tokens),
+    /// The left operand with an operator of the rank and its right operand, if they stand there.
+    #[tactic(auto, unfolding(crate::specs::Parse::continued))]
+    pub fn continued(&self, rank: u8, left: Formula, tokens: &'a [Token]) -> Found<'a, Formula>
+        requires { Parses self.now.depth (F.pre self.now.parser) (F.post self.now.parser) }
+        ensures { Reads formula_tree result
+            (spec.continued (spec.parse self.now.depth) rank (formula_tree left)
+            (signs tokens.now)) }
+    {
+        let Some((token, rest)) = tokens.split_first() else {
+            return Ok((left, tokens));
+        };
+        let TokenKind::Punctuation(symbol) = token.kind else {
+            return Ok((left, tokens));
+        };
+        let Some(operator) = binary_of(symbol) else {
+            return Ok((left, tokens));
+        };
+        if binary_rank(operator) != rank {
+            return Ok((left, tokens));
+        }
+        match self.part(operand_form(operator), rest) {
+            Ok((right, end)) => Ok((Formula::binary(self.alloc, operator, left, right)?, end)),
+            Err(Stop::None) => Ok((left, tokens)),
+            Err(stop) => Err(stop),
+        }
+    }
+
+    /// A form by its rank: a term, and then what each looser form adds behind it.
+    #[tactic(auto, unfolding(crate::specs::Parse::ranked))]
+    pub fn ranked(&self, rank: u8, tokens: &'a [Token]) -> Found<'a, Formula>
+        requires parses { Parses self.now.depth (F.pre self.now.parser) (F.post self.now.parser) }
+        requires rank { rank ≤ 4 }
+        ensures { Reads formula_tree result
+            (spec.ranked (spec.parse self.now.depth) rank (signs tokens.now)) }
+    {
+        let (mut left, mut rest) = self.term(tokens)?;
+        for below in 0..rank {
+            let (longer, end) = self.continued(below + 1, left, rest)?;
+            left = longer;
+            rest = end;
+        }
+        Ok((left, rest))
+    }
+
+    #[tactic(auto, unfolding(crate::specs::Parse::formula))]
+    pub fn formula(&self, tokens: &'a [Token]) -> Found<'a, Formula>
+        requires { Parses self.now.depth (F.pre self.now.parser) (F.post self.now.parser) }
+        ensures { Reads formula_tree result
+            (spec.formula (spec.parse self.now.depth) (signs tokens.now)) }
+    {
+        let Some((token, rest)) = tokens.split_first() else {
+            return self.ranked(4, tokens);
+        };
+        let TokenKind::Reserved(word) = token.kind else {
+            return self.ranked(4, tokens);
+        };
+        match start_of(word) {
+            Some(Start::Quantifier(quantifier)) => self.quantification(quantifier, rest),
+            _ => self.ranked(4, tokens),
+        }
     }
 }

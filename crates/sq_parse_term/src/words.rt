@@ -19,6 +19,7 @@ pub enum Start {
     Diff,
 }
 
+/// What the word begins, where it begins a form.
 #[tactic(auto, unfolding(crate::specs::Parse::start_of))]
 pub fn start_of(word: Reserved) -> Option<Start>
     ensures { result ≡ p.start_of word }

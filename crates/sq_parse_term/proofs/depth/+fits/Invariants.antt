@@ -19,4 +19,6 @@ abbrev pub decreases-all_fit : goal.decreases-all_fit
 decreases-all_fit l = 2 * l.room + 2
 
 abbrev pub invariant-all_fit-loop-formula : goal.invariant-all_fit-loop-formula
-invariant-all_fit-loop-formula l = (heights (formula_trees (drop l.formula-index l.formulas)) ≤ l.room) ↔ (heights (formula_trees l.formulas) ≤ l.room)
+invariant-all_fit-loop-formula l =
+    (heights (formula_trees (drop l.formula-index l.formulas)) ≤ l.room)
+    ↔ (heights (formula_trees l.formulas) ≤ l.room)

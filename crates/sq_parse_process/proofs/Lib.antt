@@ -1,0 +1,9 @@
+pub mod Heights
+pub mod Fill
+pub mod Reading
+pub mod Finding
+pub mod Deepness
+pub mod Whole
+pub mod Room
+pub mod Trying
+pub mod Turns
