@@ -167,7 +167,8 @@ three_laid (a ∷ b ∷ c ∷ d ∷ ps) h = absurd (omega arith)
 pub by_counts : (P : Layout → Type 0) (f : Kind) (n m : ℕ) → P Word
     → ((l : Level) → n ≡ 0 → m ≡ 2 → P (Infix l)) → (n ≡ 0 → m ≡ 2 → P Pair)
     → (n ≡ 0 → m ≡ 3 → P Conditional) → P (layout_of f n m)
-by_counts P f n m word on_infix pair conditional = by (nat_eq n 0) refl (nat_eq m (arguments f)) refl
+by_counts P f n m word on_infix pair conditional =
+    by (nat_eq n 0) refl (nat_eq m (arguments f)) refl
   where
     laid_out : (f : Kind) → n ≡ 0 → m ≡ arguments f → P (layout f)
     laid_out kind.conjunction e d = on_infix _ e d

@@ -1,5 +1,5 @@
 -- Candidates for names differ, so one of so many is free.
-use Rattle.std.proofs.Common.{◌≡◌, ◌≢◌, ◌<◌, ◌≤◌, ◌+◌, ◌^◌, ℕ, zero, suc, Bool, true, false, cond}
+use Rattle.std.proofs.Common.{◌≡◌, ◌≢◌, ◌<◌, ◌≤◌, ◌+◌, ℕ, zero, suc, Bool, true, false, cond}
 use Rattle.std.proofs.Common.{◌||◌, nat_eq, List, [], ◌∷◌, ◌++◌, length, Some, slice_get, refl, sym}
 use Rattle.std.proofs.Common.{ap, ◌∙◌, subst, arith, length-append}
 use Rattle.std.specs.Str.{bytes_eq}
@@ -9,27 +9,29 @@ use Rattle.std.specs.Str.Parse.{digits_value}
 use Rattle.std.proofs.lemmas.Cmp.{nat_list_eq_equiv}
 use Rattle.std.proofs.lemmas.Bool.{false≢true}
 use Rattle.std.proofs.lemmas.Bool.Decides.{nat_tests}
-use Rattle.std.proofs.lemmas.Fmt.{decimal_is_IsNumeral, decimal_nonempty}
+use Rattle.std.proofs.lemmas.Fmt.{decimal_is_IsNumeral_wide}
 use Rattle.std.proofs.lemmas.List.{append_cancel_left}
 use Rattle.std.proofs.lemmas.Map.Made.{length-le_from_is_member}
 use Rattle.std.proofs.lemmas.Slice.Eq.{bytes_eq-Decides}
-use Rattle.sq_print.specs.Names.{candidate, among}
+use Rattle.sq_print.specs.Names.{candidate, candidate_count, among}
 
 numbered : (s : List ℕ) (k : ℕ) → 0 < k → candidate s k ≡ s ++ decimal k
 numbered s k h = let e : nat_eq k 0 ≡ false = grind (arith, nat_tests) in rw e refl
 
-decimal-injective : (j k : ℕ) → j < 2 ^ 64 → k < 2 ^ 64 → decimal j ≡ decimal k → j ≡ k
+decimal-injective : (j k : ℕ) → j < candidate_count → k < candidate_count
+    → decimal j ≡ decimal k → j ≡ k
 decimal-injective j k hj hk e =
-    sym (decimal_is_IsNumeral j hj).1 ∙ (ap (digits_value 10) e ∙ (decimal_is_IsNumeral k hk).1)
+    sym (decimal_is_IsNumeral_wide j hj).1
+    ∙ (ap (digits_value 10) e ∙ (decimal_is_IsNumeral_wide k hk).1)
 
-not_bare : (s : List ℕ) (k : ℕ) → 0 < k → k < 2 ^ 64 → s ≢ candidate s k
+not_bare : (s : List ℕ) (k : ℕ) → 0 < k → k < candidate_count → s ≢ candidate s k
 not_bare s k p h e =
     let longer : length s ≡ length s + length (decimal k) =
     ap length (e ∙ numbered s k p) ∙ length-append s (decimal k) in
-    let some = decimal_nonempty k h in
+    let some = (decimal_is_IsNumeral_wide k h).0.0 in
     omega arith
 
-pub candidate-injective : (s : List ℕ) (j k : ℕ) → j < 2 ^ 64 → k < 2 ^ 64
+pub candidate-injective : (s : List ℕ) (j k : ℕ) → j < candidate_count → k < candidate_count
     → candidate s j ≡ candidate s k → j ≡ k
 candidate-injective s zero zero hj hk e = refl
 candidate-injective s zero (suc k) hj hk e = absurd (not_bare s (suc k) (omega arith) hk e)
@@ -68,7 +70,7 @@ length-candidates : (s : List ℕ) (n : ℕ) → length (candidates s n) ≡ n
 length-candidates s zero = refl
 length-candidates s (suc n) = let e = length-candidates s n in omega arith
 
-apart : (s : List ℕ) (n k : ℕ) → n ≤ k → k < 2 ^ 64
+apart : (s : List ℕ) (n k : ℕ) → n ≤ k → k < candidate_count
     → AllByRecursion (λ y. bytes_eq (candidate s k) y ≡ false) (candidates s n)
 apart s zero k h w = tt
 apart s (suc n) k h w = (
@@ -78,7 +80,7 @@ apart s (suc n) k h w = (
       (omega arith) w,
 )
 
-distinct : (s : List ℕ) (n : ℕ) → n ≤ 2 ^ 64 → IsDistinct bytes_eq (candidates s n)
+distinct : (s : List ℕ) (n : ℕ) → n ≤ candidate_count → IsDistinct bytes_eq (candidates s n)
 unfolding IsDistinct
 distinct s zero h = tt
 distinct s (suc n) h = (apart s n n (omega arith) (omega arith), distinct s n (omega arith))
@@ -96,7 +98,7 @@ one_of s (suc n) q h = by (bytes_eq q (candidate s n)) refl h (λ m. one_of s n 
     by false e m rest = let x = rest m in (x.0, omega arith, x.2)
 
 -- candidates that are all names of a list are no more than its names
-pub bounded : (s : List ℕ) (names : List (List ℕ)) (n : ℕ) → n ≤ 2 ^ 64
+pub bounded : (s : List ℕ) (names : List (List ℕ)) (n : ℕ) → n ≤ candidate_count
     → ((k : ℕ) → k < n → among (candidate s k) names ≡ true) → n ≤ length names
 bounded s names n w h =
     let l = length-candidates s n in

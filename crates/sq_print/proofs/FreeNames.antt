@@ -1,9 +1,10 @@
 -- The name of a binder is free, and the first such.
-use Rattle.std.proofs.Common.{◌≡◌, ◌≢◌, ◌<◌, ◌≤◌, ◌+◌, ◌^◌, ◌⊎◌, inl, inr, ℕ, zero, suc, Bool, true}
+use Rattle.std.proofs.Common.{◌≡◌, ◌≢◌, ◌<◌, ◌≤◌, ◌+◌, ◌⊎◌, inl, inr, ℕ, zero, suc, Bool, true}
 use Rattle.std.proofs.Common.{false, cond, List, refl, ap, ◌∙◌, arith}
 use Rattle.std.proofs.lemmas.Bool.{cases_eq}
 use Rattle.sq_base.specs.declared.sort.Sort.{Sort}
-use Rattle.sq_print.specs.Names.{Names, candidate, first_free, names_count, binder_name, stem}
+use Rattle.sq_print.specs.Names.{Names, candidate, candidate_count, first_free, names_count}
+use Rattle.sq_print.specs.Names.{binder_name, stem}
 use Rattle.sq_print.specs.FreeNames.{is_taken, IsFirstFree}
 use Rattle.sq_print.proofs.Supplied.{few}
 
@@ -67,7 +68,7 @@ free_or_all ns around s (suc left) j before =
 
 -- so many candidates cannot all be taken
 pub binder_free : (ns : Names) (around : List (List ℕ)) (s : Sort)
-    → names_count ns around + 1 ≤ 2 ^ 64
+    → names_count ns around + 1 ≤ candidate_count
     → IsFirst ns around (stem s) (binder_name ns around s) (names_count ns around)
 unfolding binder_name
 binder_free ns around s w =
@@ -86,7 +87,8 @@ binder_free ns around s w =
         absurd (omega arith)
 
 pub first_is_free : (ns : Names) (around : List (List ℕ)) (s : Sort)
-    → names_count ns around < 2 ^ 64 → IsFirstFree ns around (stem s) (binder_name ns around s)
+    → names_count ns around < candidate_count
+    → IsFirstFree ns around (stem s) (binder_name ns around s)
 first_is_free ns around s w =
     let first = binder_free ns around s (omega arith) in
     record {

@@ -6,13 +6,14 @@ use Rattle.std.proofs.Common.{refl, sym, ap, ◌∙◌, subst, arith, length-app
 use Rattle.std.specs.Str.{bytes_eq}
 use Rattle.std.proofs.lemmas.Bool.{false≢true, cases_eq, cases_lt}
 use Rattle.std.proofs.lemmas.Bool.Decides.{nat_tests}
+use Rattle.std.proofs.lemmas.List.{length-map}
 use Rattle.std.proofs.lemmas.List.Folds.{list_any-append}
 use Rattle.std.proofs.Math.Seq.{take-append_seam}
 use Rattle.sq_sym.specs.declared.symbol.Symbol.{Symbol}
 use Rattle.sq_sym.specs.Declarations.{found}
 use Rattle.sq_base.specs.declared.sort.Sort.{Sort}
-use Rattle.sq_print.specs.Names.{Names, candidate, among, is_used, first_free, names_count}
-use Rattle.sq_print.specs.Names.{binder_name, stem}
+use Rattle.sq_print.specs.Names.{Names, candidate, candidate_count, among, is_used, first_free}
+use Rattle.sq_print.specs.Names.{names_count, binder_name, stem}
 use Rattle.sq_base.specs.declared.sort.Sort.TheVariants.{Index, Timestamp, Message, Boolean}
 use Rattle.sq_print.specs.declared.binders.Binders.{Binders}
 use Rattle.sq_print.specs.declared.binders.Supply.{Supply}
@@ -128,21 +129,17 @@ among_all ns around q =
     assoc true y z = refl
     assoc false y z = refl
 
-length-map_of : {A B : Type 0} (f : A → B) (xs : List A) → length (map f xs) ≡ length xs
-length-map_of f [] = refl
-length-map_of f (x ∷ xs) = ap suc (length-map_of f xs)
-
 length-all : (ns : Names) (around : List (List ℕ))
     → length (all_names ns around) ≡ names_count ns around
 length-all ns around =
     let a = length-append (map (λ d. d.0) ns.table) ((ns.vars ++ ns.schemas) ++ around) in
     let b = length-append (ns.vars ++ ns.schemas) around in
     let c = length-append ns.vars ns.schemas in
-    let d = length-map_of (λ (d : List ℕ × Symbol). d.0) ns.table in
+    let d = length-map ns.table (λ (d : List ℕ × Symbol). d.0) in
     omega arith
 
 -- candidates that are all taken are no more than the names
-pub few : (ns : Names) (around : List (List ℕ)) (s : List ℕ) (k : ℕ) → k ≤ 2 ^ 64
+pub few : (ns : Names) (around : List (List ℕ)) (s : List ℕ) (k : ℕ) → k ≤ candidate_count
     → ((i : ℕ) → i < k → (is_used ns (candidate s i) || among (candidate s i) around) ≡ true)
     → k ≤ names_count ns around
 few ns around s k w taken = let l = length-all ns around in let b =

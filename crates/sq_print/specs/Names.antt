@@ -1,6 +1,6 @@
 -- The names that a text is printed with.
-use Rattle.std.specs.Prelude.{ℕ, zero, suc, ◌+◌, Bool, false, ◌&&◌, ◌||◌, nat_eq, List, [], ◌∷◌}
-use Rattle.std.specs.Prelude.{◌++◌, length, unwrap_or, is_some, slice_get}
+use Rattle.std.specs.Prelude.{ℕ, zero, suc, ◌+◌, ◌^◌, Bool, false, ◌&&◌, ◌||◌, nat_eq, List, []}
+use Rattle.std.specs.Prelude.{◌∷◌, ◌++◌, length, unwrap_or, is_some, slice_get}
 use Rattle.std.specs.Prelude.{codes, if◌then◌else◌}
 use Rattle.std.specs.Str.{bytes_eq}
 use Rattle.std.specs.Fmt.{decimal}
@@ -69,6 +69,10 @@ stem sort.Boolean = codes "i"
 -- the stem, then the stem and 1, the stem and 2, and so on
 abbrev pub candidate : List ℕ → ℕ → List ℕ
 candidate s k = if nat_eq k 0 then s else s ++ decimal k
+
+-- so many candidates of a stem differ, as a number is written with 64 digits at most
+abbrev pub candidate_count : ℕ
+candidate_count = 10 ^ 64
 
 -- the first candidate from the k-th on that is neither used nor the name of a binder around,
 -- or the last of so many

@@ -1,16 +1,16 @@
 -- The names of binders differ from each other and from all other names.
-use Rattle.std.proofs.Common.{◌≡◌, ◌≢◌, ◌<◌, ◌≤◌, ◌+◌, ◌^◌, ◌⊎◌, inl, inr, ℕ, zero, suc, Bool, true}
+use Rattle.std.proofs.Common.{◌≡◌, ◌≢◌, ◌<◌, ◌≤◌, ◌+◌, ℕ, zero, suc, Bool, true}
 use Rattle.std.proofs.Common.{false, cond, ◌||◌, List, [], ◌∷◌, ◌++◌, length, map, reverse, Option}
 use Rattle.std.proofs.Common.{Some, None, slice_get, refl, sym, ap, ◌∙◌, subst, arith}
 use Rattle.std.proofs.Common.{length-append}
 use Rattle.std.specs.Str.{bytes_eq}
-use Rattle.std.proofs.lemmas.Bool.{false≢true, cases_eq}
+use Rattle.std.proofs.lemmas.Bool.{false≢true}
 use Rattle.std.proofs.lemmas.List.{map-append, reverse-append}
 use Rattle.sq_base.specs.declared.sort.Sort.{Sort}
 use Rattle.sq_token.specs.Kinds.{IsIdentifier}
 use Rattle.sq_term.proofs.SameTrees.{is_same_sort-decides}
 use Rattle.sq_typing.specs.Typing.{has_sort_at}
-use Rattle.sq_print.specs.Names.{Names, candidate, among, is_used, first_free, names_count}
+use Rattle.sq_print.specs.Names.{Names, candidate, candidate_count, among, is_used, names_count}
 use Rattle.sq_print.specs.Names.{binder_name, stem}
 use Rattle.sq_print.proofs.Candidates.{differ, equal}
 use Rattle.sq_print.proofs.FreeNames.{binder_free}
@@ -103,8 +103,8 @@ one_around ns bs ss x s st fresh = record { inner = inner; unused = unused }
 
 -- the name of the next binder is fresh
 pub next_fresh : (ns : Names) (bs : List Variable) (s : Sort)
-    → names_count ns (map (λ v. v.0) bs) + 1 ≤ 2 ^ 64
-    → ((k : ℕ) → k < 2 ^ 64 → IsIdentifier (candidate (stem s) k))
+    → names_count ns (map (λ v. v.0) bs) + 1 ≤ candidate_count
+    → ((k : ℕ) → k < candidate_count → IsIdentifier (candidate (stem s) k))
     → IsFresh ns bs (binder_name ns (map (λ v. v.0) bs) s)
 next_fresh ns bs s w named =
     let around = map (λ v. v.0) bs in

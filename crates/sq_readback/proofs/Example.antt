@@ -1,5 +1,5 @@
 -- A scope and a term in it that can be read back.
-use Rattle.std.proofs.Common.{◌≡◌, ◌<◌, ℕ, zero, suc, List, [], ◌∷◌, length, Some, None, slice_get}
+use Rattle.std.proofs.Common.{◌≡◌, ℕ, zero, suc, List, [], ◌∷◌, Some, None, slice_get}
 use Rattle.std.proofs.Common.{codes, refl, subst, arith}
 use Rattle.sq_base.specs.declared.sort.Sort.TheVariants.{Boolean, Index, Timestamp}
 use Rattle.sq_sym.specs.declared.symbol.Symbol.TheVariants as symbol
@@ -9,7 +9,7 @@ use Rattle.sq_term.specs.Formulas.{equal}
 use Rattle.sq_term.specs.Syntax.{TermTree, name, some}
 use Rattle.sq_typing.specs.Functions.{builtin_functions}
 use Rattle.sq_resolve.specs.Scopes.{Context}
-use Rattle.sq_readback.specs.Readable.{HasPlainNames, Declares, own_names, IsReadable}
+use Rattle.sq_readback.specs.Readable.{HasPlainNames, Declares, own_names, IsReadable, HasFewNames}
 use Rattle.sq_readback.specs.Calls.{IsWithinLimits}
 use Rattle.sq_readback.proofs.Stems.{candidate_named}
 
@@ -63,8 +63,10 @@ readable =
       sorted = refl;
       words = (tt, (name_declared, (name_declared, tt)));
       finds_bind = (tt, (tt, tt));
-      few = omega arith;
     }
+
+pub few : HasFewNames scope term
+few = omega arith
 
 pub within : IsWithinLimits scope term
 within = record { nodes = omega arith; depth = omega arith }

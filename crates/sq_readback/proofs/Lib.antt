@@ -1,4 +1,3 @@
-pub mod Bare
 pub mod TreeTexts
 pub mod Tokens
 pub mod Reading
@@ -15,5 +14,6 @@ pub mod Writable
 pub mod Sentence
 pub mod Shallow
 pub mod Limits
+pub mod BinderCounts
 pub mod Returns
 pub mod Example

@@ -1,5 +1,5 @@
 -- The limits of the parser and of the resolver.
-use Rattle.std.proofs.Common.{◌≡◌, ◌≤◌, ◌+◌, ℕ, Bool, true, false, cond, max, nat_eq, nat_le, List}
+use Rattle.std.proofs.Common.{◌≡◌, ◌≤◌, ◌+◌, ℕ, Bool, true, false, cond, max, nat_le, List}
 use Rattle.std.proofs.Common.{[], ◌∷◌, ◌++◌, length, Option, Some, None, refl, sym, ap, ◌∙◌, arith}
 use Rattle.std.proofs.lemmas.List.{append-nil}
 use Rattle.sq_token.specs.Sign.{Sign}
@@ -23,7 +23,7 @@ use Rattle.sq_term.specs.Syntax.{TermTrees, nil, cons}
 use Rattle.sq_print.specs.declared.form.Form.{Form}
 use Rattle.sq_print.specs.declared.form.Form.TheVariants as form
 use Rattle.sq_term.specs.declared.layout.Layout.{Layout}
-use Rattle.sq_term.specs.declared.layout.Layout.TheVariants.{Word, Infix, Pair, Conditional}
+use Rattle.sq_term.specs.declared.layout.Layout.TheVariants.{Infix, Pair, Conditional}
 use Rattle.sq_term.specs.declared.layout.Level.{Level}
 use Rattle.sq_term.specs.Symbols.{Kind}
 use Rattle.sq_print.specs.Forms.{rank, left_form, right_form, layout_of}
@@ -155,7 +155,8 @@ function_low ns around f is xs m e =
         → 1 + max (indices_depth is) (heights xs) ≤ height (laid_tree l xs)
     whole l i h = let none = indices_none is i in omega arith
 
-    infix_low : (l : Level) (a b : FormulaTree) → Laid (Infix l) (tree.more a (tree.more b tree.none))
+    infix_low : (l : Level) (a b : FormulaTree)
+        → Laid (Infix l) (tree.more a (tree.more b tree.none))
     infix_low l a b = let x = placed_height (left_form l) a in let y =
         placed_height (right_form l) b in omega arith
 

@@ -1,8 +1,8 @@
 -- All names in the syntax tree of a printed term are identifiers.
-use Rattle.std.proofs.Common.{◌≡◌, ◌≢◌, ◌<◌, ◌≤◌, ◌+◌, ◌-◌, ◌⊎◌, inl, inr, ℕ, zero, suc, Bool, true}
-use Rattle.std.proofs.Common.{false, cond, ◌&&◌, nat_eq, nat_le, nat_lt, List, [], ◌∷◌, ◌++◌}
-use Rattle.std.proofs.Common.{length, map, replicate, Some, slice_get, refl, sym, ap, ◌∙◌, subst, arith}
-use Rattle.std.proofs.lemmas.Bool.{false≢true}
+use Rattle.std.proofs.Common.{◌≡◌, ◌≢◌, ◌+◌, ℕ, zero, suc, Bool, true}
+use Rattle.std.proofs.Common.{false, cond, ◌&&◌, nat_le, nat_lt, List, [], ◌∷◌, ◌++◌}
+use Rattle.std.proofs.Common.{length, map, replicate, Some, slice_get, refl, sym, ap, ◌∙◌, subst}
+use Rattle.std.proofs.Common.{arith}
 use Rattle.std.proofs.lemmas.Bool.Decides.{nat_tests}
 use Rattle.sq_base.specs.declared.sort.Sort.{Sort}
 use Rattle.sq_base.specs.declared.sort.Sort.TheVariants.{Message, Boolean, Index, Timestamp}
@@ -46,7 +46,8 @@ use Rattle.sq_readback.proofs.Stems.{candidate_named}
 use Rattle.sq_readback.proofs.Heads.{count_at, free_means, bound_means, schema_means, name_means}
 use Rattle.sq_readback.proofs.Heads.{function_means, action_means}
 use Rattle.sq_readback.proofs.Functions.{none_behind, on_none, on_one, on_two, on_three}
-use Rattle.sq_readback.proofs.Whole.{by_kind, no_attacker, declared_tree, names_around, Room, room_less}
+use Rattle.sq_readback.proofs.Whole.{by_kind, no_attacker, declared_tree, names_around, Room}
+use Rattle.sq_readback.proofs.Whole.{room_less}
 use Rattle.sq_readback.proofs.Whole.{room_inside, around_more, bound_stand, found_variables}
 use Rattle.sq_readback.proofs.Whole.{found_stand, OfFunction, of_function}
 
@@ -177,7 +178,8 @@ module _ (c : Context) (ns : Names) (actions : List Action) (same : AreNamesOf n
     time_named : (t : TsTree) → is_timestamp (signature c actions) ss t ≡ true → TimeHasWords c t
         → IsNamed (ts_syntax ns (names_around bs) t)
     time_named (free k) e w = (free_means c ns actions same plain bs ss st k Timestamp e).identifier
-    time_named (bound k) e w = (bound_means c ns actions same plain bs ss st k Timestamp e).identifier
+    time_named (bound k) e w =
+        (bound_means c ns actions same plain bs ss st k Timestamp e).identifier
     time_named init e w = tt
     time_named (pred t) e w = time_named t e w
     time_named (action a is) e w =

@@ -1,5 +1,5 @@
 -- Where all names of a scope are plain, each stands for what it is the name of.
-use Rattle.std.proofs.Common.{◌≡◌, ◌≢◌, ◌<◌, ◌≤◌, ◌+◌, ℕ, zero, suc, Bool, true, false, cond, ◌&&◌}
+use Rattle.std.proofs.Common.{◌≡◌, ◌≢◌, ◌<◌, ◌+◌, ℕ, zero, suc, Bool, true, false, cond, ◌&&◌}
 use Rattle.std.proofs.Common.{nat_eq, List, [], ◌∷◌, ◌++◌, length, map, Option, Some, None}
 use Rattle.std.proofs.Common.{option_map, unwrap_or, slice_get, refl, sym, ap, ◌∙◌, subst, arith}
 use Rattle.std.specs.Str.{bytes_eq}
@@ -13,7 +13,6 @@ use Rattle.sq_sym.specs.Declarations.{found, NamesDiffer}
 use Rattle.std.proofs.lemmas.Bool.{and_parts}
 use Rattle.sq_term.specs.Symbols.{declared_number}
 use Rattle.sq_term.specs.declared.action.Action.{Action}
-use Rattle.sq_term.specs.declared.signature.FunDecl.{FunDecl}
 use Rattle.sq_print.specs.Names.{is_name, is_function, is_action, spelling}
 use Rattle.sq_print.proofs.Candidates.{differ, equal}
 use Rattle.sq_resolve.specs.Scopes.{Variable, Context, last_from, last_of, last_name_from}

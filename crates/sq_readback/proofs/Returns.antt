@@ -26,7 +26,8 @@ use Rattle.sq_resolve.specs.Built.{within_limits, limited_term}
 use Rattle.sq_resolve.proofs.TypedLaws.{typed_term, one_term}
 use Rattle.sq_readback.specs.Trees.{term_syntax}
 use Rattle.sq_readback.specs.Reads.{sign_at, IsNamed, IsRead, signs_read}
-use Rattle.sq_readback.specs.Readable.{names_of, own_actions, signature, IsReadable, IsReadBack}
+use Rattle.sq_readback.specs.Readable.{names_of, own_actions, signature, IsReadable, HasFewNames}
+use Rattle.sq_readback.specs.Readable.{IsReadBack}
 use Rattle.sq_readback.specs.Calls.{IsWithinLimits, IsOnlyFormula, ComesBack, IsFormulaOf}
 use Rattle.sq_readback.proofs.TreeTexts.{text_is, is_formula, built}
 use Rattle.sq_readback.proofs.Reading.{text_read}
@@ -49,39 +50,38 @@ value Timestamp e = cc
 own_names_are : (c : Context) → AreNamesOf (names_of c) c
 own_names_are c = record { vars = refl; schemas = refl; system = refl; table = refl }
 
-names_are : (c : Context) (s : Sort) (t : TermTree) → IsReadable c s t
+names_are : (c : Context) (s : Sort) (t : TermTree) → IsReadable c s t → HasFewNames c t
     → IsNamed (term_syntax (names_of c) [] t)
-names_are c s t h =
-    let few = h.few in
+names_are c s t h few =
     named c (names_of c) (own_actions c) (own_names_are c) (plain_names c h.plain) [] []
     (none_around (names_of c)) s t (omega arith) h.sorted h.words
     (writable (signature c) [] s t h.sorted h.finds_bind)
 
-term_has : (c : Context) (s : Sort) (t : TermTree) → IsReadable c s t
+term_has : (c : Context) (s : Sort) (t : TermTree) → IsReadable c s t → HasFewNames c t
     → IsTerm c [] s (term_syntax (names_of c) [] t) t
-term_has c s t h =
-    let few = h.few in
+term_has c s t h few =
     let plain = plain_names c h.plain in
     (term_is c (names_of c) (own_actions c) (own_names_are c) plain [] []
     (none_around (names_of c)) s (value s h.value) t (omega arith) h.sorted h.words
     (writable (signature c) [] s t h.sorted h.finds_bind)).0
 
-pub read_back : (c : Context) (s : Sort) (t : TermTree) → IsReadable c s t
+pub read_back : (c : Context) (s : Sort) (t : TermTree) → IsReadable c s t → HasFewNames c t
     → IsReadBack c s (term_text (names_of c) [] t) t
-read_back c s t h = record {
+read_back c s t h few = record {
   tree = term_syntax (names_of c) [] t;
   signs = spelled (term_syntax (names_of c) [] t);
   read = subst (λ x. IsRead x (spelled (term_syntax (names_of c) [] t))) (text_is (names_of c) [] t)
-      (text_read (term_syntax (names_of c) [] t) (names_are c s t h));
+      (text_read (term_syntax (names_of c) [] t) (names_are c s t h few));
   formula = is_formula (names_of c) [] t (writable (signature c) [] s t h.sorted h.finds_bind);
-  term = term_has c s t h;
+  term = term_has c s t h few;
 }
 
-pub apart : (c : Context) (s : Sort) (t u : TermTree) → IsReadable c s t → IsReadable c s u
+pub apart : (c : Context) (s : Sort) (t u : TermTree) → IsReadable c s t → HasFewNames c t
+    → IsReadable c s u → HasFewNames c u
     → term_text (names_of c) [] t ≡ term_text (names_of c) [] u → t ≡ u
-apart c s t u h i same =
-    let a = read_back c s t h in
-    let b = read_back c s u i in
+apart c s t u h few i few' same =
+    let a = read_back c s t h few in
+    let b = read_back c s u i few' in
     let first = a.read 0 in
     let second = b.read 0 in
     let texts : signs_read (lexemes 0 0 (term_text (names_of c) [] t))
@@ -99,15 +99,15 @@ fits n k a b =
     let second : nat_le k 1000 ≡ true = grind (arith, nat_tests) in
     ap (λ x. x && nat_le k 1000) first ∙ second
 
-pub calls_give : (c : Context) (s : Sort) (t : TermTree) → IsReadable c s t → IsWithinLimits c t
-    → ComesBack c s (term_text (names_of c) [] t) t
-calls_give c s t h w =
+pub calls_give : (c : Context) (s : Sort) (t : TermTree) → IsReadable c s t → HasFewNames c t
+    → IsWithinLimits c t → ComesBack c s (term_text (names_of c) [] t) t
+calls_give c s t h few w =
     let tree = term_syntax (names_of c) [] t in
-    let cut = text_sentence tree (names_are c s t h) in
+    let cut = text_sentence tree (names_are c s t h few) in
     let deep = term_low (names_of c) [] t in
     let height = w.depth in
     let room = fits (size t) (depth t) w.nodes (omega arith) in
-    let term : term_of c [] s tree ≡ Ok t = typed_term c [] s tree t (term_has c s t h) in
+    let term : term_of c [] s tree ≡ Ok t = typed_term c [] s tree t (term_has c s t h few) in
     record {
       sentence = cut.line;
       lexed = ap (λ x. sentences (x ++ codes ".")) (sym (text_is (names_of c) [] t)) ∙ cut.found_is;
@@ -129,13 +129,13 @@ first_line (s ∷ ss) first l e h = let same : s ≡ first = cc in let line : li
     cc in ap line_of (sym same) ∙ line
 
 -- what the calls answer is the term
-pub comes_back : (c : Context) (s : Sort) (t : TermTree) → IsReadable c s t → IsWithinLimits c t
-    → (found : List Sentence) → sentences (term_text (names_of c) [] t ++ codes ".")
-    ≡ Ok (map line_of found)
+pub comes_back : (c : Context) (s : Sort) (t : TermTree) → IsReadable c s t → HasFewNames c t
+    → IsWithinLimits c t → (found : List Sentence)
+    → sentences (term_text (names_of c) [] t ++ codes ".") ≡ Ok (map line_of found)
     → (f : FormulaTree) → IsFormulaOf found f → (u : TermTree)
     → limited_term (term_of c [] s f) ≡ Ok u → u ≡ t
-comes_back c s t h w found lexed f of u resolved =
-    let g = calls_give c s t h w in
+comes_back c s t h few w found lexed f of u resolved =
+    let g = calls_give c s t h few w in
     let given = g.lexed in
     let lines : map line_of found ≡ g.sentence ∷ [] = cc in
     let line = first_line found of.first g.sentence of.there lines in

@@ -1,5 +1,5 @@
 -- What the names of a scope and of the binders around a place stand for.
-use Rattle.std.proofs.Common.{◌≡◌, ◌+◌, ◌≤◌, ◌<◌, ℕ, suc, true, List, length, map, reverse, Some}
+use Rattle.std.proofs.Common.{◌≡◌, ◌+◌, ℕ, suc, true, List, length, map, reverse, Some}
 use Rattle.std.proofs.Common.{None, slice_get}
 use Rattle.sq_base.specs.declared.sort.Sort.{Sort}
 use Rattle.sq_token.specs.Kinds.{IsIdentifier}
@@ -10,7 +10,6 @@ use Rattle.sq_term.specs.declared.builtin.Builtin.{Builtin}
 use Rattle.sq_term.specs.Builtins.{builtin_kind}
 use Rattle.sq_term.specs.Symbols.{declared_number, function_number}
 use Rattle.sq_term.specs.declared.action.Action.{Action}
-use Rattle.sq_term.specs.declared.signature.FunDecl.{FunDecl}
 use Rattle.sq_typing.specs.Functions.{builtin_functions}
 use Rattle.sq_typing.specs.Typing.{Signature, has_sort_at}
 use Rattle.sq_print.specs.Names.{Names, is_name, is_function, is_action, spelling, is_used}

@@ -1,5 +1,5 @@
 -- The names that binders may have are identifiers.
-use Rattle.std.proofs.Common.{◌≡◌, ◌<◌, ◌+◌, ◌%◌, ◌^◌, ℕ, zero, suc, true, false, ◌&&◌, nat_eq}
+use Rattle.std.proofs.Common.{◌≡◌, ◌<◌, ◌+◌, ◌%◌, ℕ, zero, suc, true, false, ◌&&◌, nat_eq}
 use Rattle.std.proofs.Common.{nat_lt, List, [], ◌∷◌, ◌++◌, None, length, codes, is_none, refl, sym}
 use Rattle.std.proofs.Common.{ap, ◌∙◌, subst, arith}
 use Rattle.std.specs.List.{list_all}
@@ -7,7 +7,7 @@ use Rattle.std.specs.Char.{is_ascii_digit}
 use Rattle.std.specs.Fmt.{decimal}
 use Rattle.std.specs.Str.{chars, is_utf8, all_ascii_digits}
 use Rattle.std.proofs.lemmas.Bool.Decides.{nat_tests}
-use Rattle.std.proofs.lemmas.Fmt.{decimal_by_steps, decimal_nonempty}
+use Rattle.std.proofs.lemmas.Fmt.{decimal_by_steps_wide, decimal_is_IsNumeral_wide}
 use Rattle.std.proofs.lemmas.Str.{chars-IsAscii, IsUtf8-from_ascii, is_utf8-from_IsUtf8}
 use Rattle.unicode_ident.specs.Ident.{is_xid_continue}
 use Rattle.unicode_ident.proofs.Computing.{unicode_ident}
@@ -17,7 +17,7 @@ use Rattle.sq_base.specs.declared.sort.Sort.TheVariants as sort
 use Rattle.sq_token.specs.Kinds.{is_start, is_name, IsIdentifier, reserved_of}
 use Rattle.std.proofs.lemmas.Bool.{and_from, and_parts}
 use Rattle.sq_lex.proofs.Symbols.{ascii}
-use Rattle.sq_print.specs.Names.{candidate, stem}
+use Rattle.sq_print.specs.Names.{candidate, candidate_count, stem}
 
 digits_pushed : (ds : List ℕ) (x : ℕ) → all_ascii_digits ds ≡ true → is_ascii_digit x ≡ true
     → all_ascii_digits (ds ++ x ∷ []) ≡ true
@@ -27,9 +27,9 @@ digits_pushed (y ∷ ys) x e d =
     and_from (is_ascii_digit y) (all_ascii_digits (ys ++ x ∷ [])) parts.0
     (digits_pushed ys x parts.1 d)
 
-decimal_digits : (k : ℕ) → k < 2 ^ 64 → all_ascii_digits (decimal k) ≡ true
+decimal_digits : (k : ℕ) → k < candidate_count → all_ascii_digits (decimal k) ≡ true
 decimal_digits k w =
-    decimal_by_steps (λ n ds. all_ascii_digits ds ≡ true)
+    decimal_by_steps_wide (λ n ds. all_ascii_digits ds ≡ true)
     (λ n h. let digit : is_ascii_digit (48 + n) ≡ true = grind (arith, nat_tests) in
     and_from (is_ascii_digit (48 + n)) true digit refl)
     (λ n ds h e. let small : n % 10 < 10 = omega arith in let digit : is_ascii_digit (48 + n % 10)
@@ -103,11 +103,11 @@ time_bare = refl
 numbered : (s : List ℕ) (k : ℕ) → candidate s (suc k) ≡ s ++ decimal (suc k)
 numbered s k = let e : nat_eq (suc k) 0 ≡ false = grind (arith, nat_tests) in rw e refl
 
-index_named : (k : ℕ) → k < 2 ^ 64 → IsIdentifier (candidate (codes "i") k)
+index_named : (k : ℕ) → k < candidate_count → IsIdentifier (candidate (codes "i") k)
 index_named zero w = lettered 105 [] (omega arith) index_starts refl index_bare
 index_named (suc k) w =
     subst IsIdentifier (sym (numbered (codes "i") k))
-    (by (decimal (suc k)) (decimal_digits (suc k) w) (decimal_nonempty (suc k) w))
+    (by (decimal (suc k)) (decimal_digits (suc k) w) (decimal_is_IsNumeral_wide (suc k) w).0.0)
   where
     by : (ds : List ℕ) → all_ascii_digits ds ≡ true → 0 < length ds → IsIdentifier (105 ∷ ds)
     by [] e h = absurd (omega arith)
@@ -115,11 +115,11 @@ index_named (suc k) w =
         lettered 105 (d ∷ ds) (omega arith) index_starts e
         (unreserved_index d ds (and_parts (is_ascii_digit d) (all_ascii_digits ds) e).0)
 
-time_named : (k : ℕ) → k < 2 ^ 64 → IsIdentifier (candidate (codes "t") k)
+time_named : (k : ℕ) → k < candidate_count → IsIdentifier (candidate (codes "t") k)
 time_named zero w = lettered 116 [] (omega arith) time_starts refl time_bare
 time_named (suc k) w =
     subst IsIdentifier (sym (numbered (codes "t") k))
-    (by (decimal (suc k)) (decimal_digits (suc k) w) (decimal_nonempty (suc k) w))
+    (by (decimal (suc k)) (decimal_digits (suc k) w) (decimal_is_IsNumeral_wide (suc k) w).0.0)
   where
     by : (ds : List ℕ) → all_ascii_digits ds ≡ true → 0 < length ds → IsIdentifier (116 ∷ ds)
     by [] e h = absurd (omega arith)
@@ -127,7 +127,7 @@ time_named (suc k) w =
         lettered 116 (d ∷ ds) (omega arith) time_starts e
         (unreserved_time d ds (and_parts (is_ascii_digit d) (all_ascii_digits ds) e).0)
 
-pub candidate_named : (s : Sort) (k : ℕ) → k < 2 ^ 64 → IsIdentifier (candidate (stem s) k)
+pub candidate_named : (s : Sort) (k : ℕ) → k < candidate_count → IsIdentifier (candidate (stem s) k)
 candidate_named sort.Timestamp k w = time_named k w
 candidate_named sort.Index k w = index_named k w
 candidate_named sort.Message k w = index_named k w

@@ -1,7 +1,7 @@
 -- The syntax tree of a printed term has the term as its term, at the sort that the term has.
-use Rattle.std.proofs.Common.{◌≡◌, ◌≢◌, ◌<◌, ◌≤◌, ◌+◌, ◌-◌, ◌^◌, ◌⊎◌, inl, inr, ℕ, zero, suc, Bool}
+use Rattle.std.proofs.Common.{◌≡◌, ◌≢◌, ◌≤◌, ◌+◌, ℕ, zero, suc, Bool}
 use Rattle.std.proofs.Common.{true, false, cond, ◌&&◌, ◌==◌, nat_eq, nat_lt, List, [], ◌∷◌, ◌++◌}
-use Rattle.std.proofs.Common.{length, map, replicate, Option, Some, None, unwrap_or, slice_get}
+use Rattle.std.proofs.Common.{length, map, replicate, Option, Some, None, slice_get}
 use Rattle.std.proofs.Common.{append_assoc, append-nil, length-append, refl, sym, ap, ◌∙◌, subst}
 use Rattle.std.proofs.Common.{arith}
 use Rattle.std.proofs.lemmas.Bool.{false≢true}
@@ -26,7 +26,6 @@ use Rattle.sq_term.specs.Symbols.{Kind, declared, declared_number, function_numb
 use Rattle.sq_term.proofs.KindNumbers.{kind_of-function_number}
 use Rattle.sq_term.specs.TreeEquality.{is_same_sort}
 use Rattle.sq_term.proofs.SameTrees.{is_same_sort-decides}
-use Rattle.sq_typing.specs.Functions.{builtin_functions}
 use Rattle.sq_typing.specs.Typing.{Signature, is_index, are_indices, is_timestamp, has_sort}
 use Rattle.sq_typing.specs.Typing.{have_sorts, has_count_at, applies, result_sort, macro_sort}
 use Rattle.sq_typing.specs.Typing.{argument_sort}
@@ -37,13 +36,13 @@ use Rattle.sq_print.specs.declared.form.Form.TheVariants as form
 use Rattle.sq_print.specs.Forms.{layout_of}
 use Rattle.sq_print.specs.Printed.{idx_text}
 use Rattle.sq_print.specs.Names.{Names, text_at, is_function, spelling, function_word, name_word}
-use Rattle.sq_print.specs.Names.{binder_name, bound_names, names_count}
+use Rattle.sq_print.specs.Names.{binder_name, bound_names, candidate_count, names_count}
 use Rattle.sq_resolve.specs.declared.head.Head.TheVariants as head
 use Rattle.sq_resolve.specs.Scopes.{Variable, Context, meaning}
 use Rattle.sq_resolve.specs.Resolved.{own_sort, count_trees, schema_variable, function}
 use Rattle.sq_resolve.specs.Resolved.{group_variables, macro_of, value_sort}
 use Rattle.sq_resolve.specs.Typed.{IsTerm, IsEquation, AreArguments, AreMessages}
-use Rattle.sq_readback.specs.Trees.{constant_of, unary_of, constant_or, unary_or, called}
+use Rattle.sq_readback.specs.Trees.{called}
 use Rattle.sq_readback.specs.Trees.{index_trees, ts_syntax, applied, function_syntax, macro_of_term}
 use Rattle.sq_readback.specs.Trees.{term_syntax, term_syntaxes, IsWritable, AreWritable}
 use Rattle.sq_readback.specs.Readable.{Declares, HasWord, HasWords, HaveWords, binders, all_binders}
@@ -223,7 +222,8 @@ module _ (c : Context) (ns : Names) (actions : List Action) (same : AreNamesOf n
                   (j ∷ js, ts),
                   (
                     subst (λ n. AreArguments c bs n
-                        (index_trees ns (names_around bs) (j ∷ js) (term_syntaxes ns (names_around bs) ts))
+                        (index_trees ns (names_around bs) (j ∷ js)
+                        (term_syntaxes ns (names_around bs) ts))
                         (j ∷ js, ts)) i a,
                     refl,
                   ),
@@ -258,7 +258,7 @@ module _ (c : Context) (ns : Names) (actions : List Action) (same : AreNamesOf n
 
 -- room for the names of so many binders more
 abbrev pub Room : Names → List Variable → ℕ → Type 0
-Room ns bs n = names_count ns (names_around bs) + n + 1 ≤ 2 ^ 64
+Room ns bs n = names_count ns (names_around bs) + n + 1 ≤ candidate_count
 
 pub around_more : (bs : List Variable) (x : List ℕ) (s : Sort)
     → names_around (bs ++ (x, s) ∷ []) ≡ names_around bs ++ x ∷ []
@@ -626,7 +626,8 @@ module _ (c : Context) (ns : Names) (actions : List Action) (same : AreNamesOf n
         (room_less ns bs (binders x) (n + (binders t + (binders u + binders x))) room_x r) d.1
         words.2 w.3 in
         let test' = subst (λ l. IsTerm c below Boolean (term_syntax ns l t) t) within.2 test.0 in
-        let found' = subst (λ l. IsTerm c below Message (term_syntax ns l u) u) within.2 found.0 in (
+        let found' =
+        subst (λ l. IsTerm c below Message (term_syntax ns l u) u) within.2 found.0 in (
           (
             sym (same_sort_is Message s a.0),
             (

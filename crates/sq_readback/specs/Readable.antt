@@ -1,6 +1,6 @@
 -- Scopes in which the printed form of a term is read back.
-use Rattle.std.specs.Prelude.{◌≡◌, ◌+◌, ◌≤◌, ◌<◌, ◌^◌, ℕ, suc, ⊤, List, [], ◌++◌, length, map, Some}
-use Rattle.std.specs.Prelude.{None, unwrap_or, slice_get, true, false, nat_eq}
+use Rattle.std.specs.Prelude.{◌≡◌, ◌+◌, ◌<◌, ℕ, suc, ⊤, List, [], ◌++◌, length, map, Some}
+use Rattle.std.specs.Prelude.{None, unwrap_or, slice_get, true}
 use Rattle.sq_base.specs.declared.sort.Sort.{Sort}
 use Rattle.sq_sym.specs.declared.symbol.Symbol.{Symbol}
 use Rattle.sq_sym.specs.declared.symbol.Symbol.TheVariants as symbol
@@ -14,7 +14,7 @@ use Rattle.sq_term.specs.Syntax.{TsTree, pred, action, TermTree, name, fun, macr
 use Rattle.sq_term.specs.Syntax.{le, ts_eq, idx_eq, happens, all, some, find, TermTrees, nil, cons}
 use Rattle.sq_typing.specs.Functions.{builtin_functions, is_value_sort}
 use Rattle.sq_typing.specs.Typing.{Signature, has_sort}
-use Rattle.sq_print.specs.Names.{Names, names_count}
+use Rattle.sq_print.specs.Names.{Names, candidate_count, names_count}
 use Rattle.sq_resolve.specs.Scopes.{Context}
 use Rattle.sq_token.specs.Sign.{Sign}
 use Rattle.sq_ast.specs.declared.formula.Form.TheVariants.{Formula}
@@ -65,8 +65,8 @@ pub record HasPlainNames (c : Context) : Type 0 where
   pub builtin : (b : Builtin) → slice_get c.funs (function_number (builtin_kind b))
       ≡ slice_get builtin_functions (function_number (builtin_kind b))
 
--- The function is written: a built-in one by a word or signs of its own, but for the attacker's, and
--- a declared one by its name in the table.
+-- The function is written: a built-in one by a word or signs of its own, but for the attacker's,
+-- and a declared one by its name in the table.
 abbrev pub HasWord : Context → Kind → Type 0
 HasWord c kind.attacker = ⊥
 HasWord c (declared k) = Declares c.table (symbol.Fun (declared_number k))
@@ -125,15 +125,18 @@ abbrev mutual
   all_binders nil = 0
   all_binders (cons t ts) = binders t + all_binders ts
 
--- What may be read back in the scope: a message or a Boolean whose symbols have words, each of whose
--- finds binds an index, with fewer than 2^64 names.
+-- What may be read back in the scope: a message or a Boolean whose symbols have words, each of
+-- whose finds binds an index.
 pub record IsReadable (c : Context) (s : Sort) (t : TermTree) : Type 0 where
   pub plain : HasPlainNames c
   pub value : is_value_sort s ≡ true
   pub sorted : has_sort (signature c) [] s t ≡ true
   pub words : HasWords c t
   pub finds_bind : FindsBind t
-  pub few : names_count (names_of c) [] + binders t < 2 ^ 64
+
+-- the scope and the binders of the term have fewer names than there are
+abbrev pub HasFewNames : Context → TermTree → Type 0
+HasFewNames c t = names_count (names_of c) [] + binders t < candidate_count
 
 -- the text is that of a formula of the grammar, and the sorts give this formula the term
 pub record IsReadBack (c : Context) (s : Sort) (text : List ℕ) (t : TermTree) : Type 0 where

@@ -1,5 +1,5 @@
 // A term that is printed and read back by the calls themselves.
-ghost use Rattle.std.specs.Prelude.{◌≡◌, ◌++◌, [], IfOk, map, codes};
+ghost use Rattle.std.specs.Prelude.{◌≡◌, ◌<◌, ◌+◌, ◌^◌, ◌++◌, [], IfOk, length, map, codes};
 ghost use Rattle.sq_lex.specs.Answers.{AreSentences};
 ghost use Rattle.sq_lex.specs.Lexemes.{line_of};
 ghost use Rattle.sq_ast.specs.View.{formula_tree};
@@ -52,22 +52,29 @@ fn variable_names(alloc: Global, vars: &[(Text, Sort)]) -> Result<Seq<Text>, NoM
     Ok(names)
 }
 
+// The printed term and a stop.
 fn printed_sentence(alloc: Global, t: &Term, scope: &Scope, table: &Table) -> Result<Text, NoMemory>
-    ensures { IfOk result
+    ensures text { IfOk result
         (λ text. text
         ≡ term_text
         (record {
           schemas = scope.now.schemas;
-          vars = map
-              (λ (v : Variable). v.0) scope.now.vars;
+          vars = map (λ (v : Variable). v.0) scope.now.vars;
           system = scope.now.system;
           table = table.now;
         }) []
         (term_tree t.now) ++ codes ".") }
+    // What is in memory is far too short for a binder to run out of names.
+    ensures few { IfOk result (λ text. length table.now
+        + (length scope.now.vars + length scope.now.schemas) + length text < 2 ^ 66) }
 {
     let names = variable_names(alloc, scope.vars.as_slice())?;
     let mut text = print_term(alloc, t, &scope.schemas, &names, scope.system, table)?;
     text.push_str(".")?;
+    let _declared = table.len();
+    let _vars = scope.vars.len();
+    let _schemas = scope.schemas.len();
+    let _bytes = text.len();
     Ok(text)
 }
 

@@ -1,6 +1,6 @@
 -- Terms that are built within the limits of a formula.
 use Rattle.std.specs.Prelude.{◌≡◌, ℕ, ◌≤◌, ◌<◌, List, [], map, Result, Ok, Err, Bool, true, ◌&&◌}
-use Rattle.std.specs.Prelude.{nat_le, cond, ◌≢◌}
+use Rattle.std.specs.Prelude.{nat_le, if◌then◌else◌, ◌≢◌}
 use Rattle.sq_base.specs.declared.sort.Sort.{Sort}
 use Rattle.sq_base.specs.declared.sort.Sort.TheVariants.{Index}
 use Rattle.sq_ast.specs.Tree.{FormulaTree}
@@ -66,18 +66,18 @@ within_limits nodes deep = nat_le nodes 65536 && nat_le deep 1000
 -- an index or a timestamp of a tree that stands behind no binder
 abbrev pub arg_of : Context → Sort → FormulaTree → Found ArgTree
 arg_of c want f =
-    cond (is_same_sort want Index) (mapped an_index (index_of c [] f))
-    (mapped a_time (time_of c [] f))
+    if is_same_sort want Index then mapped an_index (index_of c [] f)
+    else mapped a_time (time_of c [] f)
 
 abbrev pub arg_fits : ArgTree → Bool
 arg_fits (an_index i) = true
 arg_fits (a_time u) = within_limits (ts_size u) (ts_depth u)
 
 abbrev pub limited_arg : Found ArgTree → Found ArgTree
-limited_arg (Ok a) = cond (arg_fits a) (Ok a) (Err TooLarge)
+limited_arg (Ok a) = if arg_fits a then Ok a else Err TooLarge
 limited_arg (Err e) = Err e
 
 -- faults stand before the limits
 abbrev pub limited_term : Found TermTree → Found TermTree
-limited_term (Ok t) = cond (within_limits (size t) (depth t)) (Ok t) (Err TooLarge)
+limited_term (Ok t) = if within_limits (size t) (depth t) then Ok t else Err TooLarge
 limited_term (Err e) = Err e

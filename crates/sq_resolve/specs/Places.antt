@@ -1,6 +1,6 @@
 -- The places of a tree in preorder, and the first at which no case applies.
-use Rattle.std.specs.Prelude.{ℕ, zero, suc, List, [], ◌∷◌, ◌++◌, Option, Some, None, Bool, cond}
-use Rattle.std.specs.Prelude.{is_some, ◌==◌, Result, Ok, Err}
+use Rattle.std.specs.Prelude.{ℕ, zero, suc, List, [], ◌∷◌, ◌++◌, Option, Some, None, Bool}
+use Rattle.std.specs.Prelude.{if◌then◌else◌, is_some, ◌==◌, Result, Ok, Err}
 use Rattle.sq_base.specs.declared.sort.Sort.{Sort}
 use Rattle.sq_base.specs.declared.sort.Sort.TheVariants.{Message, Boolean, Index, Timestamp}
 use Rattle.sq_ast.specs.declared.formula.Binary.{Binary}
@@ -29,7 +29,7 @@ pub record Place : Type 0 where
 -- ---- the fault of a place by itself: the first of its kinds
 
 abbrev pub clash : Sort → Sort → Option ResolveFault
-clash want own = cond (is_same_sort want own) None (Some (SortClash want own))
+clash want own = if is_same_sort want own then None else Some (SortClash want own)
 
 -- the head is something of the wanted sort
 abbrev pub stands_for : Sort → Head → Bool
@@ -40,8 +40,8 @@ stands_for Boolean h = is_some (as_value Boolean h)
 
 abbrev pub head_fault : Bool → Sort → List ℕ → ℕ → Head → Option ResolveFault
 head_fault stands want x n h =
-    cond (head_arity h == n) (cond stands None (Some (SortClash want (head_sort h))))
-    (Some (Arity x (head_arity h) n))
+    if head_arity h == n then (if stands then None else Some (SortClash want (head_sort h)))
+    else Some (Arity x (head_arity h) n)
 
 abbrev pub identifier_fault : Sort → List ℕ → ℕ → Option Head → Option ResolveFault
 identifier_fault want x n None = Some (Unknown x)
@@ -50,10 +50,11 @@ identifier_fault want x n (Some h) = head_fault (stands_for want h) want x n h
 -- a tree at a place; parentheses and the two sides of a difference are judged by their parts
 abbrev pub own_fault : Context → List Variable → Sort → FormulaTree → Option ResolveFault
 own_fault c bs want (quantified q gs a) =
-    first_some (clash want Boolean) (cond (bind_no_message gs) None (Some MessageQuantifier))
+    first_some (clash want Boolean)
+    (if bind_no_message gs then None else Some MessageQuantifier)
 own_fault c bs want (group a) = None
 own_fault c bs want (diff a b) =
-    cond (is_binder_sort want) (Some (SortClash want (own_sort c bs (diff a b)))) None
+    if is_binder_sort want then Some (SortClash want (own_sort c bs (diff a b))) else None
 own_fault c bs want (name x) = identifier_fault want x 0 (meaning c bs x)
 own_fault c bs want (apply x xs) = identifier_fault want x (count_trees xs) (meaning c bs x)
 own_fault c bs want f = clash want (own_sort c bs f)

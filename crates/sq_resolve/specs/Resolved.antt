@@ -1,6 +1,6 @@
 -- The term of a tree in a scope, or why there is none: one equation for each form.
 use Rattle.std.specs.Prelude.{ℕ, zero, suc, ◌+◌, List, [], ◌∷◌, ◌++◌, map, Option, Some, None}
-use Rattle.std.specs.Prelude.{Result, Ok, Err, Bool, true, cond, ◌&&◌, ◌==◌, length}
+use Rattle.std.specs.Prelude.{Result, Ok, Err, Bool, true, if◌then◌else◌, ◌&&◌, ◌==◌, length}
 use Rattle.sq_base.specs.declared.sort.Sort.{Sort}
 use Rattle.sq_base.specs.declared.sort.Sort.TheVariants.{Message, Boolean, Index, Timestamp}
 use Rattle.sq_ast.specs.declared.formula.Quantifier.{Quantifier}
@@ -55,14 +55,14 @@ three f (Err e) r s = Err e
 
 -- a form of the sort `own` where `want` is wanted
 abbrev pub expect : {A : Type 0} → Sort → Sort → Found A → Found A
-expect want own r = cond (is_same_sort want own) r (Err (SortClash want own))
+expect want own r = if is_same_sort want own then r else Err (SortClash want own)
 
 -- ---- identifiers
 
 -- an identifier with n arguments
 abbrev pub known : List ℕ → ℕ → Option Head → Found Head
 known x n None = Err (Unknown x)
-known x n (Some h) = cond (head_arity h == n) (Ok h) (Err (Arity x (head_arity h) n))
+known x n (Some h) = if head_arity h == n then Ok h else Err (Arity x (head_arity h) n)
 
 abbrev pub read_as : {A : Type 0} → Sort → Head → Option A → Found A
 read_as want h (Some a) = Ok a
@@ -99,10 +99,12 @@ pub data Value : Type 0 where
   function : Kind → ℕ → Value
 
 abbrev pub as_value : Sort → Head → Option Value
-as_value want (head.Schema k) = cond (is_same_sort want Message) (Some (schema_variable k)) None
-as_value want (head.Name n k) = cond (is_same_sort want Message) (Some (name_symbol n)) None
+as_value want (head.Schema k) =
+    if is_same_sort want Message then Some (schema_variable k) else None
+as_value want (head.Name n k) =
+    if is_same_sort want Message then Some (name_symbol n) else None
 as_value want (head.Function f i n s) =
-    cond (is_same_sort want s) (Some (function (kind_of f) i)) None
+    if is_same_sort want s then Some (function (kind_of f) i) else None
 as_value want h = None
 
 -- ---- the own sort of a tree, read off its outermost form
@@ -216,7 +218,7 @@ bind_no_message (g ∷ gs) = is_binder_sort g.1 && bind_no_message gs
 
 -- a quantifier of these groups
 abbrev pub with_binders : {A : Type 0} → List Group → Found A → Found A
-with_binders gs r = cond (bind_no_message gs) r (Err MessageQuantifier)
+with_binders gs r = if bind_no_message gs then r else Err MessageQuantifier
 
 -- an equation compares indices, timestamps or messages, by the own sort of its left side
 abbrev pub by_sort : {A : Type 0} → Sort → A → A → A → A

@@ -1,5 +1,5 @@
 -- What an identifier means in a scope.
-use Rattle.std.specs.Prelude.{ℕ, ◌+◌, ◌-◌, List, [], ◌∷◌, Option, Some, None, if◌then◌else◌, cond}
+use Rattle.std.specs.Prelude.{ℕ, ◌+◌, ◌-◌, List, [], ◌∷◌, Option, Some, None, if◌then◌else◌}
 use Rattle.std.specs.Prelude.{length, slice_get, option_map, ◌==◌}
 use Rattle.std.specs.Str.{bytes_eq}
 use Rattle.sq_base.specs.declared.sort.Sort.{Sort}
@@ -35,8 +35,7 @@ context s table e =
       vars = s.vars;
       schemas = s.schemas;
       table = table;
-      names =
-          e.names;
+      names = e.names;
       funs = e.funs;
       systems = e.systems;
     }
@@ -90,12 +89,11 @@ symbol_head c (Some (at, symbol.Name n)) = option_map (λ k. head.Name n k) (sli
 symbol_head c (Some (at, symbol.Fun f)) =
     option_map (λ d. head.Function f d.idx d.args d.result) (slice_get c.funs f)
 symbol_head c (Some (at, symbol.Action s a)) =
-    cond (s == c.system) (action_head a (slice_get c.systems s)) None
+    if s == c.system then action_head a (slice_get c.systems s) else None
 symbol_head c (Some (at, s)) = None
 
 -- The meaning of an identifier behind the binders bs, the outermost first: the innermost binder
--- with the name, else a variable,
--- else a schema variable, else a symbol.
+-- with the name, else a variable, else a schema variable, else a symbol.
 abbrev pub meaning : Context → List Variable → List ℕ → Option Head
 meaning c bs x =
     first_some (bound_head (length bs) (last_of x bs))

@@ -1,7 +1,6 @@
 // Terms that are built within the limits of a formula.
 ghost use Rattle.std.specs.Prelude.{◌≡◌, ◌≤◌, ◌<◌, IfOk, List, [], MatchBool, length};
-ghost use Rattle.sq_term.specs.Measure.{size as spec_size, depth as spec_depth};
-ghost use Rattle.sq_term.specs.Measure.{indices_depth as spec_indices_depth};
+ghost use Rattle.sq_term.specs.Measure as measure;
 ghost use Rattle.sq_term.specs.Syntax as t;
 ghost use Rattle.sq_term.specs.Syntax.{TermTree};
 ghost use Rattle.sq_term.specs.View.{term_tree, row};
@@ -9,7 +8,8 @@ ghost use Rattle.sq_resolve.specs.Built.{IsBuilt, IsRow, Measures, MeasuresRow};
 ghost use Rattle.sq_term.specs.Builtins.{builtin_kind};
 ghost use Rattle.sq_term.specs.Formulas as formula;
 ghost use Rattle.sq_term.specs.Symbols.{kind_of};
-ghost use Rattle.sq_resolve.specs.Resolved.{quantifier, quantify as spec_quantify};
+ghost use Rattle.sq_resolve.specs.Resolved as spec;
+ghost use Rattle.sq_resolve.specs.Resolved.{quantifier};
 
 use crate::row::{longer_row, no_row};
 use crate::sized::{Built, Row, SizedRow, SizedTerm, discard};
@@ -44,7 +44,7 @@ pub fn measured(term: Term) -> Built
 }
 
 fn indices_depth(indices: &Seq<Idx>) -> u32
-    ensures { result ≡ spec_indices_depth indices.now }
+    ensures { result ≡ measure.indices_depth indices.now }
 {
     match indices.as_slice() {
         [] => 0,
@@ -54,7 +54,7 @@ fn indices_depth(indices: &Seq<Idx>) -> u32
 
 // The term with its measures, where it is within the limits.
 fn sized(term: Term, nodes: usize, deep: usize) -> Built
-    ensures { (x : TermTree) → term_tree term ≡ x → nodes ≡ spec_size x → deep ≡ spec_depth x
+    ensures { (x : TermTree) → term_tree term ≡ x → nodes ≡ measure.size x → deep ≡ measure.depth x
         → IsBuilt result x }
 {
     if is_within(nodes, deep) {
@@ -170,7 +170,7 @@ pub fn quantify(
     body: Built,
 ) -> Result<Built, NoMemory>
     ensures { (x : TermTree) → IsBuilt body x
-        → IfOk result (λ r. IsBuilt r (spec_quantify q vars.now x)) }
+        → IfOk result (λ r. IsBuilt r (spec.quantify q vars.now x)) }
 {
     let mut built = body;
     let mut left = vars.len();

@@ -24,9 +24,9 @@ pub enum ResolveFault {
 
 impl From<NoMemory> for ResolveFault {
     ghost use Rattle.std.specs.Prelude.{◌≡◌};
-    ghost use Rattle.sq_resolve.specs.declared.fault.ResolveFault.TheVariants.{NoMemory as OutOfMemory};
+    ghost use Rattle.sq_resolve.specs.declared.fault.ResolveFault.TheVariants.{NoMemory};
 
-    ghost from_gives = { λ _ e. e ≡ OutOfMemory };
+    ghost from_gives = { λ _ e. e ≡ NoMemory };
 
     fn from(_: NoMemory) -> Self {
         ResolveFault::NoMemory
@@ -35,9 +35,9 @@ impl From<NoMemory> for ResolveFault {
 
 impl From<AllocError> for ResolveFault {
     ghost use Rattle.std.specs.Prelude.{◌≡◌};
-    ghost use Rattle.sq_resolve.specs.declared.fault.ResolveFault.TheVariants.{NoMemory as OutOfMemory};
+    ghost use Rattle.sq_resolve.specs.declared.fault.ResolveFault.TheVariants.{NoMemory};
 
-    ghost from_gives = { λ _ e. e ≡ OutOfMemory };
+    ghost from_gives = { λ _ e. e ≡ NoMemory };
 
     fn from(_: AllocError) -> Self {
         ResolveFault::NoMemory
@@ -46,9 +46,9 @@ impl From<AllocError> for ResolveFault {
 
 impl<T: Drop> From<AllocFailed<T>> for ResolveFault {
     ghost use Rattle.std.specs.Prelude.{◌≡◌};
-    ghost use Rattle.sq_resolve.specs.declared.fault.ResolveFault.TheVariants.{NoMemory as OutOfMemory};
+    ghost use Rattle.sq_resolve.specs.declared.fault.ResolveFault.TheVariants.{NoMemory};
 
-    ghost from_gives = { λ _ e. e ≡ OutOfMemory };
+    ghost from_gives = { λ _ e. e ≡ NoMemory };
 
     fn from(_: AllocFailed<T>) -> Self {
         ResolveFault::NoMemory

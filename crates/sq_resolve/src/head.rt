@@ -1,7 +1,7 @@
 // What an identifier means.
 ghost use Rattle.std.specs.Prelude.{◌≡◌, ◌+◌, None, option_map, length};
-ghost use Rattle.sq_resolve.specs.Scopes.{context, last_of, last_name, meaning as spec_meaning};
-ghost use Rattle.sq_resolve.specs.Scopes.{head_sort, head_arity, symbol_head};
+ghost use Rattle.sq_resolve.specs.Scopes as spec;
+ghost use Rattle.sq_resolve.specs.Scopes.{context, head_sort, head_arity};
 ghost use Rattle.std.specs.Str.{bytes_eq};
 ghost use Rattle.sq_sym.specs.Declarations.{found};
 
@@ -67,7 +67,7 @@ fn is_named(text: &Text, name: &str) -> bool
 }
 
 fn last_of(vars: &[(Text, Sort)], name: &str) -> Option<(usize, Sort)>
-    ensures { result ≡ last_of name.now vars.now }
+    ensures { result ≡ spec.last_of name.now vars.now }
 {
     let mut best = None;
     for (at, var) in vars.iter().enumerate() {
@@ -79,7 +79,7 @@ fn last_of(vars: &[(Text, Sort)], name: &str) -> Option<(usize, Sort)>
 }
 
 fn last_name(names: &[Text], name: &str) -> Option<usize>
-    ensures { result ≡ last_name name.now names.now }
+    ensures { result ≡ spec.last_name name.now names.now }
 {
     let mut best = None;
     for (at, other) in names.iter().enumerate() {
@@ -91,7 +91,7 @@ fn last_name(names: &[Text], name: &str) -> Option<usize>
 }
 
 fn symbol_head(r: &Resolver<'_>, name: &str) -> Option<Head>
-    ensures { result ≡ symbol_head (context r.now.scope.now r.now.table.now r.now.env.now)
+    ensures { result ≡ spec.symbol_head (context r.now.scope.now r.now.table.now r.now.env.now)
         (found name.now r.now.table.now) }
 {
     let (_, symbol) = r.table.find(name)?;
@@ -116,7 +116,7 @@ fn symbol_head(r: &Resolver<'_>, name: &str) -> Option<Head>
 /// The meaning of an identifier behind these binders, the outermost first.
 pub fn meaning(r: &Resolver<'_>, binders: &[(Text, Sort)], name: &str) -> Option<Head>
     ensures { result
-        ≡ spec_meaning
+        ≡ spec.meaning
         (context r.now.scope.now r.now.table.now r.now.env.now) binders.now name.now }
 {
     if let Some((at, sort)) = last_of(binders, name) {

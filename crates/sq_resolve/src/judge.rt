@@ -3,13 +3,10 @@ ghost use Rattle.std.specs.Prelude.{◌≡◌, ◌≢◌, ℕ, IfOk};
 ghost use Rattle.sq_base.specs.Gives.{Gives};
 ghost use Rattle.sq_ast.specs.View.{formula_tree};
 ghost use Rattle.sq_resolve.specs.Heads.{context_of, moment_of, value_of};
-ghost use Rattle.sq_resolve.specs.Scopes.{meaning as spec_meaning};
-ghost use Rattle.sq_resolve.specs.Resolved.{known as spec_known, judged, as_index, as_moment};
-ghost use Rattle.sq_resolve.specs.Resolved.{as_value, own_sort as spec_own_sort};
-ghost use Rattle.sq_resolve.specs.Resolved.{constant_sort as spec_constant_sort};
-ghost use Rattle.sq_resolve.specs.Resolved.{unary_sort as spec_unary_sort};
-ghost use Rattle.sq_resolve.specs.Resolved.{macro_of as spec_macro_of};
-ghost use Rattle.sq_typing.specs.Typing.{macro_sort as spec_macro_sort};
+ghost use Rattle.sq_resolve.specs.Scopes as scopes;
+ghost use Rattle.sq_resolve.specs.Resolved as spec;
+ghost use Rattle.sq_resolve.specs.Resolved.{judged, as_index, as_moment, as_value};
+ghost use Rattle.sq_typing.specs.Typing as typing;
 
 use crate::fault::ResolveFault;
 use crate::head::{Head, Resolver, meaning};
@@ -73,7 +70,7 @@ fn known(
     args: usize,
 ) -> Result<Head, ResolveFault>
     ensures { Gives ResolveFault.NoMemory (λ h. h) result
-        (spec_known name.now args (spec_meaning (context_of r.now) binders.now name.now)) }
+        (spec.known name.now args (scopes.meaning (context_of r.now) binders.now name.now)) }
 {
     let Some(head) = meaning(r, binders, name.as_str()) else {
         return Err(unknown_fault(r.alloc, name));
@@ -95,7 +92,7 @@ pub fn index_head(
 ) -> Result<Idx, ResolveFault>
     ensures { Gives ResolveFault.NoMemory (λ i. i) result
         (judged as_index Sort.Index name.now args
-        (spec_meaning (context_of r.now) binders.now name.now)) }
+        (scopes.meaning (context_of r.now) binders.now name.now)) }
 {
     match known(r, binders, name, args)? {
         Head::Bound(k, Sort::Index) => Ok(Idx::Bound(number(k)?)),
@@ -114,7 +111,7 @@ pub fn moment_head(
 ) -> Result<Moment, ResolveFault>
     ensures { Gives ResolveFault.NoMemory moment_of result
         (judged as_moment Sort.Timestamp name.now args
-        (spec_meaning (context_of r.now) binders.now name.now)) }
+        (scopes.meaning (context_of r.now) binders.now name.now)) }
 {
     match known(r, binders, name, args)? {
         Head::Bound(k, Sort::Timestamp) => Ok(Moment::Time(Ts::Bound(number(k)?))),
@@ -134,7 +131,7 @@ pub fn value_head(
 ) -> Result<Value, ResolveFault>
     ensures { Gives ResolveFault.NoMemory value_of result
         (judged (as_value want) want name.now args
-        (spec_meaning (context_of r.now) binders.now name.now)) }
+        (scopes.meaning (context_of r.now) binders.now name.now)) }
 {
     match known(r, binders, name, args)? {
         Head::Schema(k) if want == Sort::Message => Ok(Value::Schema(number(k)?)),
@@ -145,7 +142,7 @@ pub fn value_head(
 }
 
 pub fn constant_sort(k: Constant) -> Sort
-    ensures { result ≡ spec_constant_sort k }
+    ensures { result ≡ spec.constant_sort k }
 {
     match k {
         Constant::True | Constant::False => Sort::Boolean,
@@ -155,7 +152,7 @@ pub fn constant_sort(k: Constant) -> Sort
 }
 
 pub fn unary_sort(u: Unary) -> Sort
-    ensures { result ≡ spec_unary_sort u }
+    ensures { result ≡ spec.unary_sort u }
 {
     match u {
         Unary::Not | Unary::Happens => Sort::Boolean,
@@ -165,7 +162,7 @@ pub fn unary_sort(u: Unary) -> Sort
 }
 
 pub fn macro_of(word: MacroWord) -> Macro
-    ensures { result ≡ spec_macro_of word }
+    ensures { result ≡ spec.macro_of word }
 {
     match word {
         MacroWord::Input => Macro::Input,
@@ -177,7 +174,7 @@ pub fn macro_of(word: MacroWord) -> Macro
 }
 
 pub fn macro_sort(m: Macro) -> Sort
-    ensures { result ≡ spec_macro_sort m }
+    ensures { result ≡ typing.macro_sort m }
 {
     match m {
         Macro::Input | Macro::Output | Macro::Frame => Sort::Message,
@@ -187,7 +184,7 @@ pub fn macro_sort(m: Macro) -> Sort
 
 /// The own sort of a tree, read off its outermost form.
 pub fn own_sort(r: &Resolver<'_>, binders: &[(Text, Sort)], f: &Formula) -> Sort
-    ensures { result ≡ spec_own_sort (context_of r.now) binders.now (formula_tree f.now) }
+    ensures { result ≡ spec.own_sort (context_of r.now) binders.now (formula_tree f.now) }
 {
     match shape_of(f) {
         Shape::Quantified(_, _, _) | Shape::Binary(_, _, _) => Sort::Boolean,

@@ -1,7 +1,7 @@
 // What the definition of `resolve` comes to, in the words of the sorts.
 ghost use Rattle.std.specs.Prelude.{◌≡◌, Ok, true, List};
 ghost use Rattle.sq_ast.specs.Tree.{FormulaTree};
-ghost use Rattle.sq_term.specs.declared.term.Idx.{Idx as IndexTree};
+ghost use Rattle.sq_term.specs.declared.term.Idx.{Idx};
 ghost use Rattle.sq_term.specs.Syntax.{TermTree, TsTree};
 ghost use Rattle.sq_typing.specs.Functions.{is_value_sort};
 ghost use Rattle.sq_resolve.specs.Scopes.{Context, Variable};
@@ -23,9 +23,9 @@ pub fn a_tree_has_at_most_one_term()
 
 /// The same of indices and of timestamps.
 pub fn a_tree_has_at_most_one_index_or_timestamp()
-    ensures index_given { (c : Context) (around : List Variable) (f : FormulaTree) (i : IndexTree)
+    ensures index_given { (c : Context) (around : List Variable) (f : FormulaTree) (i : Idx)
         → index_of c around f ≡ Ok i → IsIndex c around f i }
-    ensures index_found { (c : Context) (around : List Variable) (f : FormulaTree) (i : IndexTree)
+    ensures index_found { (c : Context) (around : List Variable) (f : FormulaTree) (i : Idx)
         → IsIndex c around f i → index_of c around f ≡ Ok i }
     ensures timestamp_given { (c : Context) (around : List Variable) (f : FormulaTree) (t : TsTree)
         → time_of c around f ≡ Ok t → IsTime c around f t }

@@ -3,14 +3,12 @@ ghost use Rattle.std.specs.Prelude.{◌≡◌, IfOk, MatchResult, Ok, true, fals
 ghost use Rattle.sq_ast.specs.View.{formula_tree};
 ghost use Rattle.sq_term.specs.Syntax as t;
 ghost use Rattle.sq_term.specs.View.{ts_tree, term_tree};
-ghost use Rattle.sq_typing.specs.Typing.{macro_sort as spec_macro_sort};
+ghost use Rattle.sq_typing.specs.Typing as typing;
 ghost use Rattle.sq_term.specs.TreeEquality.{is_same_sort};
 ghost use Rattle.sq_resolve.specs.Built.{Builds};
 ghost use Rattle.sq_resolve.specs.Heads.{context_of};
-ghost use Rattle.sq_resolve.specs.Resolved.{both, mapped, expect as spec_expect, constant_kind};
-ghost use Rattle.sq_resolve.specs.Resolved.{index_of, time_of, before as spec_before};
-ghost use Rattle.sq_resolve.specs.Resolved.{macro_of as spec_macro_of};
-ghost use Rattle.sq_resolve.specs.Resolved.{constant_sort as spec_constant_sort};
+ghost use Rattle.sq_resolve.specs.Resolved as spec;
+ghost use Rattle.sq_resolve.specs.Resolved.{mapped, index_of, time_of, constant_kind};
 ghost use Rattle.sq_term.specs.Builtins.{builtin_kind};
 ghost use Rattle.sq_term.specs.Formulas as formula;
 
@@ -51,7 +49,7 @@ fn constant_builtin(k: Constant) -> Builtin
 
 pub fn constant(r: &Resolver<'_>, want: Sort, k: Constant) -> Result<Built, ResolveFault>
     ensures { Builds result
-        (spec_expect want (spec_constant_sort k) (Ok (formula.constant (constant_kind k)))) }
+        (spec.expect want (spec.constant_sort k) (Ok (formula.constant (constant_kind k)))) }
 {
     expect(want, constant_sort(k))?;
     let function = constant_builtin(k);
@@ -66,8 +64,8 @@ pub fn indices_equal(
     a: &Formula,
     b: &Formula,
 ) -> Result<Built, ResolveFault>
-    ensures { Builds result (spec_expect want Sort.Boolean
-        (both t.idx_eq (index_of (context_of r.now) binders.now (formula_tree a.now))
+    ensures { Builds result (spec.expect want Sort.Boolean
+        (spec.both t.idx_eq (index_of (context_of r.now) binders.now (formula_tree a.now))
         (index_of (context_of r.now) binders.now (formula_tree b.now)))) }
 {
     expect(want, Sort::Boolean)?;
@@ -84,8 +82,8 @@ pub fn times_equal(
     a: &Formula,
     b: &Formula,
 ) -> Result<Built, ResolveFault>
-    ensures { Builds result (spec_expect want Sort.Boolean
-        (both t.ts_eq (time_of (context_of r.now) binders.now (formula_tree a.now))
+    ensures { Builds result (spec.expect want Sort.Boolean
+        (spec.both t.ts_eq (time_of (context_of r.now) binders.now (formula_tree a.now))
         (time_of (context_of r.now) binders.now (formula_tree b.now)))) }
 {
     expect(want, Sort::Boolean)?;
@@ -102,8 +100,8 @@ pub fn less_equal(
     a: &Formula,
     b: &Formula,
 ) -> Result<Built, ResolveFault>
-    ensures { Builds result (spec_expect want Sort.Boolean
-        (both t.le (time_of (context_of r.now) binders.now (formula_tree a.now))
+    ensures { Builds result (spec.expect want Sort.Boolean
+        (spec.both t.le (time_of (context_of r.now) binders.now (formula_tree a.now))
         (time_of (context_of r.now) binders.now (formula_tree b.now)))) }
 {
     expect(want, Sort::Boolean)?;
@@ -115,7 +113,7 @@ pub fn less_equal(
 // `T < S` is `T <= S && not(T = S)`.
 #[tactic(auto, using(sq_term::proofs::Views::open_rules))]
 fn before(alloc: Global, left: Ts, right: Ts) -> Result<Term, NoMemory>
-    ensures { IfOk result (λ u. term_tree u ≡ spec_before (ts_tree left) (ts_tree right)) }
+    ensures { IfOk result (λ u. term_tree u ≡ spec.before (ts_tree left) (ts_tree right)) }
 {
     let equal = Term::TsEq(copy_ts(alloc, &left)?, copy_ts(alloc, &right)?);
     both(alloc, Term::Le(left, right), negation(alloc, equal)?)
@@ -128,8 +126,8 @@ pub fn less(
     a: &Formula,
     b: &Formula,
 ) -> Result<Built, ResolveFault>
-    ensures { Builds result (spec_expect want Sort.Boolean
-        (both spec_before (time_of (context_of r.now) binders.now (formula_tree a.now))
+    ensures { Builds result (spec.expect want Sort.Boolean
+        (spec.both spec.before (time_of (context_of r.now) binders.now (formula_tree a.now))
         (time_of (context_of r.now) binders.now (formula_tree b.now)))) }
 {
     expect(want, Sort::Boolean)?;
@@ -147,7 +145,7 @@ pub fn happens(
     a: &Formula,
 ) -> Result<Built, ResolveFault>
     ensures { Builds result
-        (spec_expect want Sort.Boolean
+        (spec.expect want Sort.Boolean
         (mapped t.happens (time_of (context_of r.now) binders.now (formula_tree a.now)))) }
 {
     expect(want, Sort::Boolean)?;
@@ -163,8 +161,8 @@ pub fn macro_at(
     word: MacroWord,
     a: &Formula,
 ) -> Result<Built, ResolveFault>
-    ensures { Builds result (spec_expect want (spec_macro_sort (spec_macro_of word))
-        (mapped (t.macro (spec_macro_of word))
+    ensures { Builds result (spec.expect want (typing.macro_sort (spec.macro_of word))
+        (mapped (t.macro (spec.macro_of word))
         (time_of (context_of r.now) binders.now (formula_tree a.now)))) }
 {
     let what = macro_of(word);

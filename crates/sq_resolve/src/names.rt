@@ -1,15 +1,15 @@
 // The variables that binders add.
 ghost use Rattle.std.specs.Prelude.{◌≡◌, ◌++◌, OnOk};
-ghost use Rattle.sq_resolve.specs.Resolved.{bind_no_message as spec_bind_no_message};
+ghost use Rattle.sq_resolve.specs.Resolved as spec;
 ghost use Rattle.sq_resolve.specs.Resolved.{group_variables, variables};
-ghost use Rattle.sq_term.specs.Pure.{is_binder_sort as spec_is_binder_sort};
+ghost use Rattle.sq_term.specs.Pure as pure;
 
 use sq_ast::Binders;
 use sq_base::{NoMemory, Seq, Sort, Text};
 use std::alloc::Global;
 
 fn is_binder_sort(sort: Sort) -> bool
-    ensures { result ≡ spec_is_binder_sort sort }
+    ensures { result ≡ pure.is_binder_sort sort }
 {
     match sort {
         Sort::Index | Sort::Timestamp => true,
@@ -19,7 +19,7 @@ fn is_binder_sort(sort: Sort) -> bool
 
 /// Whether each group binds indices or timestamps.
 pub fn bind_no_message(groups: &[Binders]) -> bool
-    ensures { result ≡ spec_bind_no_message groups.now }
+    ensures { result ≡ spec.bind_no_message groups.now }
 {
     let mut all = true;
     for group in groups {

@@ -6,7 +6,8 @@ ghost use Rattle.sq_term.specs.View.{term_tree};
 ghost use Rattle.sq_typing.specs.Functions.{is_value_sort};
 ghost use Rattle.sq_term.specs.Pure.{is_binder_sort};
 ghost use Rattle.sq_resolve.specs.Scopes.{context};
-ghost use Rattle.sq_resolve.specs.Resolved.{term_of, own_sort as spec_own_sort, wanted_by_itself};
+ghost use Rattle.sq_resolve.specs.Resolved as spec;
+ghost use Rattle.sq_resolve.specs.Resolved.{term_of, wanted_by_itself};
 ghost use Rattle.sq_resolve.specs.Typed.{IsTerm};
 ghost use Rattle.sq_resolve.specs.Built.{limited_term, limited_arg, arg_of};
 ghost use Rattle.sq_term.specs.Arguments.{arg_tree};
@@ -93,7 +94,7 @@ pub fn resolve_arg(
 pub fn wanted_sort(alloc: Global, f: &Formula, scope: &Scope, table: &Table, env: &Env) -> Sort
     ensures { result
         ≡ wanted_by_itself
-        (spec_own_sort (context scope.now table.now env.now) [] (formula_tree f.now)) }
+        (spec.own_sort (context scope.now table.now env.now) [] (formula_tree f.now)) }
 {
     let resolver = Resolver {
         alloc,

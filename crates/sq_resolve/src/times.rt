@@ -6,7 +6,7 @@ ghost use Rattle.sq_term.specs.View.{ts_tree};
 ghost use Rattle.sq_resolve.specs.Heads.{context_of};
 ghost use Rattle.sq_resolve.specs.Scopes.{meaning};
 ghost use Rattle.sq_resolve.specs.Resolved.{index_of, indices_of, time_of, judged, as_moment};
-ghost use Rattle.sq_resolve.specs.Resolved.{at_indices as spec_at_indices};
+ghost use Rattle.sq_resolve.specs.Resolved as spec;
 
 use crate::fault::ResolveFault;
 use crate::head::Resolver;
@@ -54,7 +54,7 @@ fn at_indices(
     args: &[Formula],
 ) -> Result<Ts, ResolveFault>
     ensures { Gives ResolveFault.NoMemory ts_tree result
-        (spec_at_indices
+        (spec.at_indices
         (judged as_moment Sort.Timestamp name.now (length args.now)
         (meaning (context_of r.now) binders.now name.now))
         (indices_of (context_of r.now) binders.now (formula_trees args.now))) }

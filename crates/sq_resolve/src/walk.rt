@@ -9,8 +9,8 @@ ghost use Rattle.sq_resolve.specs.Below.{WalksBelow};
 ghost use Rattle.sq_resolve.specs.Built.{Builds, BuildsRow};
 ghost use Rattle.sq_resolve.specs.Heads.{context_of};
 ghost use Rattle.sq_resolve.specs.Shapes.{shape_tree};
-ghost use Rattle.sq_resolve.specs.Resolved.{both, three, mapped, expect as spec_expect, term_of};
-ghost use Rattle.sq_resolve.specs.Resolved.{terms_of, with_binders, quantify as spec_quantify};
+ghost use Rattle.sq_resolve.specs.Resolved as spec;
+ghost use Rattle.sq_resolve.specs.Resolved.{both, three, mapped, term_of, terms_of, with_binders};
 ghost use Rattle.sq_resolve.specs.Resolved.{variables, group_variables, equation, application};
 ghost use Rattle.sq_resolve.specs.Resolved.{function_term, arguments_of};
 ghost use Rattle.sq_term.specs.Builtins.{builtin_kind};
@@ -226,7 +226,7 @@ impl<F: Fn(&Resolver<'_>, &mut Around, Sort, &Formula) -> Result<Built, ResolveF
             (F.post self.now.walk) }
         requires lower { height (formula_tree a.now) < height (formula_tree self.now.whole.now) }
         ensures builds { Builds result
-            (spec_expect want call.own
+            (spec.expect want call.own
             (mapped (formula.unary (builtin_kind call.function))
             (term_of (context_of self.now.resolver.now) around.old call.part
             (formula_tree a.now)))) }
@@ -250,7 +250,7 @@ impl<F: Fn(&Resolver<'_>, &mut Around, Sort, &Formula) -> Result<Built, ResolveF
         requires left { height (formula_tree a.now) < height (formula_tree self.now.whole.now) }
         requires right { height (formula_tree b.now) < height (formula_tree self.now.whole.now) }
         ensures builds { Builds result
-            (spec_expect want call.own (both (formula.binary (builtin_kind call.function))
+            (spec.expect want call.own (both (formula.binary (builtin_kind call.function))
             (term_of (context_of self.now.resolver.now) around.old call.part (formula_tree a.now))
             (term_of (context_of self.now.resolver.now) around.old call.part
             (formula_tree b.now)))) }
@@ -347,7 +347,7 @@ impl<F: Fn(&Resolver<'_>, &mut Around, Sort, &Formula) -> Result<Built, ResolveF
         requires test { height (formula_tree a.now) < height (formula_tree self.now.whole.now) }
         requires then { height (formula_tree b.now) < height (formula_tree self.now.whole.now) }
         requires other { height (formula_tree c.now) < height (formula_tree self.now.whole.now) }
-        ensures builds { Builds result (spec_expect want Sort.Message (three formula.conditional
+        ensures builds { Builds result (spec.expect want Sort.Message (three formula.conditional
             (term_of (context_of self.now.resolver.now) around.old Sort.Boolean
             (formula_tree a.now))
             (term_of (context_of self.now.resolver.now) around.old Sort.Message
@@ -378,7 +378,7 @@ impl<F: Fn(&Resolver<'_>, &mut Around, Sort, &Formula) -> Result<Built, ResolveF
         requires then { height (formula_tree b.now) < height (formula_tree self.now.whole.now) }
         requires other { height (formula_tree c.now) < height (formula_tree self.now.whole.now) }
         ensures builds { Builds result
-            (spec_expect want Sort.Message (three (t.find (length names.now))
+            (spec.expect want Sort.Message (three (t.find (length names.now))
             (term_of (context_of self.now.resolver.now)
             (around.old ++ group_variables Sort.Index names.now) Sort.Boolean (formula_tree a.now))
             (term_of (context_of self.now.resolver.now)
@@ -410,8 +410,8 @@ impl<F: Fn(&Resolver<'_>, &mut Around, Sort, &Formula) -> Result<Built, ResolveF
             (F.post self.now.walk) }
         requires lower { height (formula_tree a.now) < height (formula_tree self.now.whole.now) }
         ensures builds { Builds result
-            (spec_expect want Sort.Boolean
-            (with_binders groups.now (mapped (spec_quantify q (variables groups.now))
+            (spec.expect want Sort.Boolean
+            (with_binders groups.now (mapped (spec.quantify q (variables groups.now))
             (term_of (context_of self.now.resolver.now)
             (around.old ++ variables groups.now) Sort.Boolean (formula_tree a.now))))) }
         ensures kept { OnOk result (around.new ≡ around.old) }
