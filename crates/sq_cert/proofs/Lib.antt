@@ -1,0 +1,9 @@
+pub mod LineLists
+pub mod Identifiers
+pub mod GoalLines
+pub mod StepLines
+pub mod BlockLists
+pub mod Writables
+pub mod CertificateLaws
+pub mod CertificateWrites
+pub mod Stops

@@ -1,0 +1,10 @@
+pub mod PlaceLaws
+pub mod ArgumentLaws
+pub mod Rests
+pub mod Writes
+pub mod Unparted
+pub mod StepLaws
+pub mod Inverse
+pub mod Writables
+pub mod Bounds
+pub mod Answered

@@ -1,0 +1,4 @@
+pub mod Steps
+pub mod ReadBack
+pub mod Told
+pub mod Wrote

@@ -1,0 +1,5 @@
+pub mod Spelling
+pub mod Numbers
+pub mod Words
+pub mod Lines
+pub mod Reads
