@@ -1,19 +1,8 @@
 //! The program: it runs the proofs of a file, and lists the goals that they prove.
 #![tactic(auto)]
 
-mod answer;
-mod formula;
-mod goal;
-mod number;
-mod put;
-mod reading;
-mod run;
-mod runner;
-mod scan;
-mod script;
-
-use run::squirrel_run;
 use sq_edge::{FileShelf, Status, StdSink};
+use sq_run::squirrel_run;
 use std::process::ExitCode;
 use std::rt::Env;
 use std::{env, io};

@@ -18,9 +18,9 @@ pub enum Fault {
 
 impl From<NoMemory> for Fault {
     ghost use Rattle.std.specs.Prelude.{◌≡◌};
-    ghost use Rattle.squirrel_bench.specs.declared.fault.Fault.TheVariants.{NoMemory as OutOfMemory};
+    ghost use Rattle.squirrel_bench.specs.declared.fault.Fault.TheVariants.{NoMemory};
 
-    ghost from_gives = { λ _ e. e ≡ OutOfMemory };
+    ghost from_gives = { λ _ e. e ≡ NoMemory };
 
     fn from(_: NoMemory) -> Self {
         Fault::NoMemory
@@ -29,9 +29,9 @@ impl From<NoMemory> for Fault {
 
 impl From<AllocError> for Fault {
     ghost use Rattle.std.specs.Prelude.{◌≡◌};
-    ghost use Rattle.squirrel_bench.specs.declared.fault.Fault.TheVariants.{NoMemory as OutOfMemory};
+    ghost use Rattle.squirrel_bench.specs.declared.fault.Fault.TheVariants.{NoMemory};
 
-    ghost from_gives = { λ _ e. e ≡ OutOfMemory };
+    ghost from_gives = { λ _ e. e ≡ NoMemory };
 
     fn from(_: AllocError) -> Self {
         Fault::NoMemory
@@ -40,9 +40,9 @@ impl From<AllocError> for Fault {
 
 impl<T: Drop> From<AllocFailed<T>> for Fault {
     ghost use Rattle.std.specs.Prelude.{◌≡◌};
-    ghost use Rattle.squirrel_bench.specs.declared.fault.Fault.TheVariants.{NoMemory as OutOfMemory};
+    ghost use Rattle.squirrel_bench.specs.declared.fault.Fault.TheVariants.{NoMemory};
 
-    ghost from_gives = { λ _ e. e ≡ OutOfMemory };
+    ghost from_gives = { λ _ e. e ≡ NoMemory };
 
     fn from(_: AllocFailed<T>) -> Self {
         Fault::NoMemory

@@ -2,6 +2,7 @@
 //! how many KiB. The scripts in bench/ take the time around a run.
 #![tactic(auto)]
 
+mod certificates;
 mod fault;
 mod pool;
 mod reading;
@@ -44,6 +45,7 @@ fn turned(alloc: Global, words: &[String]) -> Result<u32, Fault> {
         "resolution" => resolution::turned(alloc, word.as_str(), turns),
         "rows" => rows::turned(alloc, word.as_str(), turns),
         "pool" => pool::turned(alloc, word.as_str(), turns),
+        "certificate" => certificates::turned(alloc, word.as_str(), turns),
         _ => Err(Fault::Usage),
     }
 }

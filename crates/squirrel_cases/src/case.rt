@@ -9,6 +9,16 @@ pub enum Kind {
     Formula,
     /// How many tokens that formula has.
     FormulaLength,
+    /// The program is run over files and a sink in memory.
+    Run,
+    /// Lines of steps are read.
+    Steps,
+    /// Lines of steps are read, and written again.
+    StepsKept,
+    /// A certificate is read, and written again.
+    Certificate,
+    /// Each proper front of a certificate is read.
+    CertificateFronts,
 }
 
 impl Kind {
@@ -18,6 +28,11 @@ impl Kind {
             "tokens" => Some(Kind::Tokens),
             "formula" => Some(Kind::Formula),
             "formula-length" => Some(Kind::FormulaLength),
+            "run" => Some(Kind::Run),
+            "steps" => Some(Kind::Steps),
+            "steps-kept" => Some(Kind::StepsKept),
+            "certificate" => Some(Kind::Certificate),
+            "certificate-fronts" => Some(Kind::CertificateFronts),
             _ => None,
         }
     }

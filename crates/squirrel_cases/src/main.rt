@@ -4,8 +4,11 @@
 
 mod case;
 mod case_file;
+mod certificates;
 mod fault;
 mod outcome;
+mod plain;
+mod program;
 
 use case::Case;
 use case_file::cases_of;

@@ -1,5 +1,8 @@
 // What the program makes of what a case gives, as a text.
 use crate::case::Kind;
+use crate::certificates::{certificate, certificate_fronts, steps, steps_kept};
+use crate::plain::without_wrappers;
+use crate::program::program;
 use sq_ast::Formula;
 use sq_base::NoMemory;
 use sq_lex::lex;
@@ -20,6 +23,11 @@ pub fn outcome(alloc: Global, kind: Kind, given: &str) -> Result<String, AllocEr
         Kind::Tokens => tokens(alloc, given),
         Kind::Formula => formula(alloc, given, Shown::Tree),
         Kind::FormulaLength => formula(alloc, given, Shown::Length),
+        Kind::Run => program(alloc, given).map_err(|_| AllocError),
+        Kind::Steps => steps(alloc, given),
+        Kind::StepsKept => steps_kept(alloc, given),
+        Kind::Certificate => certificate(alloc, given),
+        Kind::CertificateFronts => certificate_fronts(alloc, given),
     }
 }
 
@@ -85,28 +93,4 @@ fn told(alloc: Global, formula: &Formula, end: usize, what: Shown) -> Result<Str
     let tree = format!(in alloc; "{formula:?}")?;
     let plain = without_wrappers(alloc, tree)?;
     format!(in alloc; "{end} {}", plain.as_str())
-}
-
-// The tree by its variants and their parts alone.
-fn without_wrappers(alloc: Global, shown: String) -> Result<String, AllocError> {
-    let mut plain = shown;
-    for wrapper in [
-        "Boxed { inner: ",
-        "Text { string: ",
-        "Seq { items: ",
-        "Items { items: ",
-        " }",
-    ] {
-        plain = without(alloc, plain.as_str(), wrapper)?;
-    }
-    Ok(plain)
-}
-
-// The text with every occurrence of another taken out.
-fn without(alloc: Global, text: &str, other: &str) -> Result<String, AllocError> {
-    let mut out = String::new(alloc);
-    for piece in text.split(other) {
-        out.push_str(piece)?;
-    }
-    Ok(out)
 }

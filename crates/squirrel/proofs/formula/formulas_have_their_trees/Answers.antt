@@ -1,8 +1,0 @@
-use Rattle.squirrel.proofs.Grammars.{tree_of-words, chain_of-spelled}
-use Rattle.squirrel.proofs.formula.formulas_have_their_trees.Goals as goal
-
-pub returns-clause-trees : goal.returns-clause-trees
-returns-clause-trees c table f chain e = tree_of-words table f chain e
-
-pub returns-clause-spelled : goal.returns-clause-spelled
-returns-clause-spelled c table words chain e = chain_of-spelled table words chain e

@@ -1,7 +1,0 @@
-use Rattle.std.proofs.Common.{◌≡◌, drop, Some}
-use Rattle.squirrel.specs.Scanning.{scanned, start}
-use Rattle.squirrel.proofs.scan.sentences_of.Given as goal
-
-abbrev pub invariant-bytes : goal.invariant-bytes
-invariant-bytes l =
-    scanned (Some l.scanner) l.at (drop l.at l.bytes) ≡ scanned (Some start) 0 l.bytes
