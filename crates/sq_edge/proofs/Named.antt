@@ -1,17 +1,23 @@
 -- Lists of files with names, and the map that they stand for.
-use Rattle.std.proofs.Common.{◌≡◌, ◌<◌, ◌≤◌, ℕ, zero, suc, Bool, true, false, cond, List, [], ◌∷◌, ◌++◌, length, take, drop, length-take, length-drop, Some, None, refl, sym, ◌∙◌, ap, subst, arith, slice_get, get_or, IfSome, inl, inr, Result, Ok, Err, IsOk}
+use Rattle.std.proofs.Common.{◌≡◌, ◌<◌, ◌≤◌, ℕ, zero, suc, Bool, true, false, cond, List, [], ◌∷◌}
+use Rattle.std.proofs.Common.{◌++◌, length, take, drop, length-take, length-drop, Some, None, refl}
+use Rattle.std.proofs.Common.{sym, ◌∙◌, ap, subst, arith, slice_get, get_or, IfSome, inl, inr}
+use Rattle.std.proofs.Common.{Result, Ok, Err, IsOk}
 use Rattle.std.specs.declared.option.Option.{Option}
 use Rattle.std.proofs.Math.ListN.{set}
 use Rattle.std.specs.Ordering.{eq_by_cmp, is_eq}
 use Rattle.std.specs.Cmp.{Equal-is}
 use Rattle.std.specs.Str.{bytes_eq}
-use Rattle.std.specs.FinMap.{find, get, from_entries, insert, get-from_entries, get-insert, same_map, slice_cmp-IsAntisymmetric, nat_cmp-IsAntisymmetric, IsAntisymmetric, from_entries_push}
+use Rattle.std.specs.FinMap.{find, get, from_entries, insert, get-from_entries, get-insert}
+use Rattle.std.specs.FinMap.{same_map, slice_cmp-IsAntisymmetric, nat_cmp-IsAntisymmetric}
+use Rattle.std.specs.FinMap.{IsAntisymmetric, from_entries_push}
 use Rattle.std.proofs.lemmas.Cmp.{nat_list_cmp_total, tied_itself}
 use Rattle.std.proofs.lemmas.Slice.Eq.{bytes_eq-Decides}
 use Rattle.std.proofs.lemmas.Map.Lookups.{exact_bytes}
 use Rattle.sq_edge.specs.declared.shelf.ShelfError.TheVariants.{Missing}
 use Rattle.sq_edge.specs.Edge.{name_cmp, IsPiece}
-use Rattle.sq_edge.specs.Memory.{Entries, one_more, counted, is_miss, read_outcome, append_outcome, GivesOrStarves}
+use Rattle.sq_edge.specs.Memory.{Entries, one_more, counted, is_miss, read_outcome, append_outcome}
+use Rattle.sq_edge.specs.Memory.{GivesOrStarves}
 
 only_equal : IsAntisymmetric name_cmp
 only_equal = slice_cmp-IsAntisymmetric nat_cmp-IsAntisymmetric

@@ -1,5 +1,6 @@
 -- What the calls of a shelf and of a sink do to the contents that are told, and when they fail.
-use Rattle.std.specs.Prelude.{◌≡◌, ◌⊎◌, ◌≤◌, ◌<◌, ◌+◌, ◌-◌, ◌^◌, ℕ, List, ◌++◌, length, take, drop, min, Result, IsErrOf, IsSomeAnd, unwrap_or, [], None}
+use Rattle.std.specs.Prelude.{◌≡◌, ◌⊎◌, ◌≤◌, ◌<◌, ◌+◌, ◌-◌, ◌^◌, ℕ, List, ◌++◌, length, take, drop}
+use Rattle.std.specs.Prelude.{min, Result, IsErrOf, IsSomeAnd, unwrap_or, [], None}
 use Rattle.std.specs.declared.option.Option.{Option}
 use Rattle.std.specs.declared.cmp.Ordering.{Ordering}
 use Rattle.std.specs.Option.{option_map, option_and_then}
@@ -31,11 +32,13 @@ with_file files name bytes = option_map (λ m. insert m name bytes) files
 
 -- the files with these bytes behind what stands under the name, where they are told
 abbrev pub with_more : Option Files → List ℕ → List ℕ → Option Files
-with_more files name bytes = option_map (λ m. insert m name (unwrap_or (get m name) [] ++ bytes)) files
+with_more files name bytes = option_map
+    (λ m. insert m name (unwrap_or (get m name) [] ++ bytes)) files
 
 -- after an append that failed: what was there, or that with a front of the piece behind a file that is there
 abbrev pub KeptOrFront : Option Files → Option Files → List ℕ → List ℕ → Type 0
-KeptOrFront old new name piece = (new ≡ old) ⊎ ((n : ℕ) × (Lacks old name → ⊥) × (new ≡ with_more old name (take n piece)))
+KeptOrFront old new name piece = (new ≡ old)
+    ⊎ ((n : ℕ) × (Lacks old name → ⊥) × (new ≡ with_more old name (take n piece)))
 
 -- the bytes that a sink held and then these, where they are told
 abbrev pub and_then_bytes : Option (List ℕ) → List ℕ → Option (List ℕ)
@@ -51,7 +54,8 @@ abbrev pub Rose : ℕ → ℕ → Type 0
 Rose before now = min (before + 1) (2 ^ 64 - 1) ≤ now
 
 -- the counts don't fall, and where an error comes its count has risen
-pub record HasCause {T : Type 0} (faults misses faults_after misses_after : ℕ) (result : Result T ShelfError) : Type 0 where
+pub record HasCause {T : Type 0} (faults misses faults_after misses_after : ℕ)
+    (result : Result T ShelfError) : Type 0 where
   pub faults_rise : faults ≤ faults_after
   pub misses_rise : misses ≤ misses_after
   pub failed : IsErrOf result Failed → Rose faults faults_after

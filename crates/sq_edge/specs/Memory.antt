@@ -1,5 +1,7 @@
 -- What the shelf and the sink in memory do besides: exact answers and exact counts.
-use Rattle.std.specs.Prelude.{◌≡◌, ◌⊎◌, ℕ, Bool, true, false, not, ◌&&◌, ◌||◌, List, [], ◌∷◌, ◌+◌, ◌-◌, ◌^◌, min, take, drop, if◌then◌else◌, ◌==◌, Result, Ok, Err, IsOk, None, Some, is_none}
+use Rattle.std.specs.Prelude.{◌≡◌, ◌⊎◌, ℕ, Bool, true, false, not, ◌&&◌, ◌||◌, List, [], ◌∷◌, ◌+◌}
+use Rattle.std.specs.Prelude.{◌-◌, ◌^◌, min, take, drop, if◌then◌else◌, ◌==◌, Result, Ok, Err, IsOk}
+use Rattle.std.specs.Prelude.{None, Some, is_none}
 use Rattle.std.specs.declared.option.Option.{Option}
 use Rattle.std.specs.List.{list_any}
 use Rattle.std.specs.Str.{bytes_eq}
@@ -64,7 +66,8 @@ append_outcome false (Some file) = Ok tt
 -- The call gives its outcome, and `starved` stays. Or memory ran out: what would have been done fails, and `starved` rises.
 abbrev pub GivesOrStarves : {A E : Type 0} → E → Result A E → Result A E → ℕ → ℕ → Type 0
 GivesOrStarves fault outcome result before after =
-    ((result ≡ outcome) × (after ≡ before)) ⊎ (IsOk outcome × (result ≡ Err fault) × (after ≡ one_more before))
+    ((result ≡ outcome) × (after ≡ before))
+    ⊎ (IsOk outcome × (result ≡ Err fault) × (after ≡ one_more before))
 
 -- the one fault of a sink
 abbrev pub sink_fault : SinkFault

@@ -32,7 +32,8 @@ impl MemShelf {
         requires { IsTrue (names_differ files) }
         ensures files { result.files ≡ files }
         ensures fails { result.fails ≡ fails }
-        ensures counts { (result.calls ≡ 0) × (result.faults ≡ 0) × (result.starved ≡ 0) × (result.misses ≡ 0) }
+        ensures counts { (result.calls ≡ 0) × (result.faults ≡ 0) × (result.starved ≡ 0) ×
+            (result.misses ≡ 0) }
     {
         MemShelf {
             files,
@@ -78,17 +79,25 @@ impl Shelf for MemShelf {
         room: usize,
     ) -> Result<Vec<u8>, ShelfError>
         ensures room { IfOk result (λ piece. length piece.items ≤ room) }
-        ensures bytes { IfOk result (λ piece. (file : List ℕ) → held (told self.old.files) name.now ≡ Some file → IsPiece file at room piece.items) }
+        ensures bytes { IfOk result (λ piece. (file : List ℕ)
+            → held (told self.old.files) name.now ≡ Some file → IsPiece file at room piece.items) }
         ensures present { IsOk result → Lacks (told self.old.files) name.now → ⊥ }
-        ensures absent { IsErrOf result ShelfError.Missing → (file : List ℕ) → held (told self.old.files) name.now ≡ Some file → ⊥ }
+        ensures absent { IsErrOf result ShelfError.Missing → (file : List ℕ)
+            → held (told self.old.files) name.now ≡ Some file → ⊥ }
         ensures files { told self.new.files ≡ told self.old.files }
-        ensures cause { HasCause (together self.old.faults self.old.starved) self.old.misses (together self.new.faults self.new.starved) self.new.misses result }
+        ensures cause { HasCause (together self.old.faults self.old.starved) self.old.misses
+            (together self.new.faults self.new.starved) self.new.misses result }
         // And exactly:
-        ensures outcome { Gives ShelfError.NoMemory (λ piece. piece.items) result (read_outcome (fails_at self.old.fails (one_more self.old.calls)) (file_of self.old.files name.now) at room) }
+        ensures outcome { Gives ShelfError.NoMemory (λ piece. piece.items) result
+            (read_outcome (fails_at self.old.fails (one_more self.old.calls))
+            (file_of self.old.files name.now) at room) }
         ensures calls { self.new.calls ≡ one_more self.old.calls }
-        ensures faults { self.new.faults ≡ counted (fails_at self.old.fails (one_more self.old.calls)) self.old.faults }
+        ensures faults { self.new.faults
+            ≡ counted (fails_at self.old.fails (one_more self.old.calls)) self.old.faults }
         ensures starved { self.new.starved ≡ self.old.starved }
-        ensures misses { self.new.misses ≡ counted (is_miss (fails_at self.old.fails (one_more self.old.calls)) (file_of self.old.files name.now)) self.old.misses }
+        ensures misses { self.new.misses
+            ≡ counted (is_miss (fails_at self.old.fails (one_more self.old.calls))
+            (file_of self.old.files name.now)) self.old.misses }
         ensures same_files { self.new.files ≡ self.old.files }
         ensures fails { self.new.fails ≡ self.old.fails }
     {
@@ -106,15 +115,21 @@ impl Shelf for MemShelf {
     }
 
     fn create(&mut self, name: &str) -> Result<(), ShelfError>
-        ensures ok { OnOk result (told self.new.files ≡ with_file (told self.old.files) name.now []) }
-        ensures err { OnErr result ((told self.new.files ≡ told self.old.files) ⊎ (told self.new.files ≡ with_file (told self.old.files) name.now [])) }
+        ensures ok { OnOk result (told self.new.files
+            ≡ with_file (told self.old.files) name.now []) }
+        ensures err { OnErr result ((told self.new.files ≡ told self.old.files)
+            ⊎ (told self.new.files ≡ with_file (told self.old.files) name.now [])) }
         ensures only { IfErr result (λ e. e ≡ ShelfError.Failed) }
-        ensures cause { HasCause (together self.old.faults self.old.starved) self.old.misses (together self.new.faults self.new.starved) self.new.misses result }
+        ensures cause { HasCause (together self.old.faults self.old.starved) self.old.misses
+            (together self.new.faults self.new.starved) self.new.misses result }
         // And exactly:
-        ensures outcome { GivesOrStarves ShelfError.Failed (create_outcome (fails_at self.old.fails (one_more self.old.calls))) result self.old.starved self.new.starved }
+        ensures outcome { GivesOrStarves ShelfError.Failed
+            (create_outcome (fails_at self.old.fails
+            (one_more self.old.calls))) result self.old.starved self.new.starved }
         ensures unchanged { OnErr result (self.new.files ≡ self.old.files) }
         ensures calls { self.new.calls ≡ one_more self.old.calls }
-        ensures faults { self.new.faults ≡ counted (fails_at self.old.fails (one_more self.old.calls)) self.old.faults }
+        ensures faults { self.new.faults
+            ≡ counted (fails_at self.old.fails (one_more self.old.calls)) self.old.faults }
         ensures misses { self.new.misses ≡ self.old.misses }
         ensures fails { self.new.fails ≡ self.old.fails }
     {
@@ -131,18 +146,27 @@ impl Shelf for MemShelf {
     }
 
     fn append(&mut self, name: &str, piece: &[u8]) -> Result<(), ShelfError>
-        ensures ok { OnOk result (told self.new.files ≡ with_more (told self.old.files) name.now piece.now) }
-        ensures err { OnErr result (KeptOrFront (told self.old.files) (told self.new.files) name.now piece.now) }
+        ensures ok { OnOk result (told self.new.files
+            ≡ with_more (told self.old.files) name.now piece.now) }
+        ensures err { OnErr result (KeptOrFront (told self.old.files)
+            (told self.new.files) name.now piece.now) }
         ensures present { IsOk result → Lacks (told self.old.files) name.now → ⊥ }
-        ensures absent { IsErrOf result ShelfError.Missing → (file : List ℕ) → held (told self.old.files) name.now ≡ Some file → ⊥ }
+        ensures absent { IsErrOf result ShelfError.Missing → (file : List ℕ)
+            → held (told self.old.files) name.now ≡ Some file → ⊥ }
         ensures only { IsErrOf result ShelfError.NoMemory → ⊥ }
-        ensures cause { HasCause (together self.old.faults self.old.starved) self.old.misses (together self.new.faults self.new.starved) self.new.misses result }
+        ensures cause { HasCause (together self.old.faults self.old.starved) self.old.misses
+            (together self.new.faults self.new.starved) self.new.misses result }
         // And exactly:
-        ensures outcome { GivesOrStarves ShelfError.Failed (append_outcome (fails_at self.old.fails (one_more self.old.calls)) (file_of self.old.files name.now)) result self.old.starved self.new.starved }
+        ensures outcome { GivesOrStarves ShelfError.Failed
+            (append_outcome (fails_at self.old.fails (one_more self.old.calls))
+            (file_of self.old.files name.now)) result self.old.starved self.new.starved }
         ensures unchanged { OnErr result (self.new.files ≡ self.old.files) }
         ensures calls { self.new.calls ≡ one_more self.old.calls }
-        ensures faults { self.new.faults ≡ counted (fails_at self.old.fails (one_more self.old.calls)) self.old.faults }
-        ensures misses { self.new.misses ≡ counted (is_miss (fails_at self.old.fails (one_more self.old.calls)) (file_of self.old.files name.now)) self.old.misses }
+        ensures faults { self.new.faults
+            ≡ counted (fails_at self.old.fails (one_more self.old.calls)) self.old.faults }
+        ensures misses { self.new.misses
+            ≡ counted (is_miss (fails_at self.old.fails (one_more self.old.calls))
+            (file_of self.old.files name.now)) self.old.misses }
         ensures fails { self.new.fails ≡ self.old.fails }
     {
         if self.counts() {
@@ -205,7 +229,8 @@ fn piece_of(alloc: Global, file: &[u8], at: u64, room: usize) -> Result<Vec<u8>,
 
 // Makes the file empty, new or not.
 fn put_file(files: &mut Seq<(Text, Seq<u8>)>, name: &str) -> Result<(), NoMemory>
-    ensures ok { OnOk result (from_entries {R = name_cmp} files.new ≡ insert (from_entries files.old) name.now []) }
+    ensures ok { OnOk result (from_entries {R = name_cmp} files.new
+        ≡ insert (from_entries files.old) name.now []) }
     ensures err { OnErr result (files.new ≡ files.old) }
 {
     let alloc = files.allocator();
@@ -222,7 +247,8 @@ fn put_file(files: &mut Seq<(Text, Seq<u8>)>, name: &str) -> Result<(), NoMemory
 // Adds the piece at the end of the file that stands there.
 fn extend_file(files: &mut Seq<(Text, Seq<u8>)>, at: usize, piece: &[u8]) -> Result<(), NoMemory>
     requires { at < length files.old }
-    ensures ok { OnOk result (IfSome (slice_get files.old at) (λ e. files.new ≡ slice_set files.old at (e.0, e.1 ++ piece.now))) }
+    ensures ok { OnOk result (IfSome (slice_get files.old at)
+        (λ e. files.new ≡ slice_set files.old at (e.0, e.1 ++ piece.now))) }
     ensures err { OnErr result (files.new ≡ files.old) }
 {
     let alloc = files.allocator();
@@ -278,12 +304,19 @@ impl Sink for MemSink {
         ensures took { IfOk result (λ n. self.new.taken ≡ self.old.taken ++ take n piece.now) }
         ensures err { OnErr result (self.new.taken ≡ self.old.taken) }
         ensures later { together self.old.faults self.old.starved ≤ together self.new.faults self.new.starved }
-        ensures failed { IsErr result → Rose (together self.old.faults self.old.starved) (together self.new.faults self.new.starved) }
-        ensures none { IfOk result (λ n. n ≡ 0 → 0 < length piece.now → Rose (together self.old.faults self.old.starved) (together self.new.faults self.new.starved)) }
+        ensures failed { IsErr result → Rose (together self.old.faults self.old.starved)
+            (together self.new.faults self.new.starved) }
+        ensures none { IfOk result (λ n. n ≡ 0 → 0 < length piece.now
+            → Rose (together self.old.faults self.old.starved)
+            (together self.new.faults self.new.starved)) }
         // And exactly:
-        ensures outcome { GivesOrStarves sink_fault (put_outcome (fails_at self.old.fails (one_more self.old.calls)) self.old.most (length piece.now)) result self.old.starved self.new.starved }
+        ensures outcome { GivesOrStarves sink_fault
+            (put_outcome (fails_at self.old.fails (one_more self.old.calls)) self.old.most
+            (length piece.now)) result self.old.starved self.new.starved }
         ensures calls { self.new.calls ≡ one_more self.old.calls }
-        ensures faults { self.new.faults ≡ counted (is_failed_put (fails_at self.old.fails (one_more self.old.calls)) self.old.most (length piece.now)) self.old.faults }
+        ensures faults { self.new.faults
+            ≡ counted (is_failed_put (fails_at self.old.fails
+            (one_more self.old.calls)) self.old.most (length piece.now)) self.old.faults }
         ensures most { self.new.most ≡ self.old.most }
         ensures fails { self.new.fails ≡ self.old.fails }
     {

@@ -46,25 +46,33 @@ pub trait Shelf {
         room: usize,
     ) -> Result<Vec<u8>, ShelfError>
         ensures room { IfOk result (λ piece. length piece.items ≤ room) }
-        ensures bytes { IfOk result (λ piece. (file : List ℕ) → held (files self.old) name.now ≡ Some file → IsPiece file at room piece.items) }
+        ensures bytes { IfOk result (λ piece. (file : List ℕ)
+            → held (files self.old) name.now ≡ Some file → IsPiece file at room piece.items) }
         ensures present { IsOk result → Lacks (files self.old) name.now → ⊥ }
-        ensures absent { IsErrOf result ShelfError.Missing → (file : List ℕ) → held (files self.old) name.now ≡ Some file → ⊥ }
+        ensures absent { IsErrOf result ShelfError.Missing → (file : List ℕ)
+            → held (files self.old) name.now ≡ Some file → ⊥ }
         ensures files { files self.new ≡ files self.old }
-        ensures cause { HasCause (faults self.old) (misses self.old) (faults self.new) (misses self.new) result };
+        ensures cause { HasCause (faults self.old) (misses self.old) (faults self.new)
+            (misses self.new) result };
 
     /// Makes the file empty, new or not. After an error it holds what it held or nothing.
     fn create(&mut self, name: &str) -> Result<(), ShelfError>
         ensures ok { OnOk result (files self.new ≡ with_file (files self.old) name.now []) }
-        ensures err { OnErr result ((files self.new ≡ files self.old) ⊎ (files self.new ≡ with_file (files self.old) name.now [])) }
+        ensures err { OnErr result ((files self.new ≡ files self.old)
+            ⊎ (files self.new ≡ with_file (files self.old) name.now [])) }
         ensures only { IfErr result (λ e. e ≡ ShelfError.Failed) }
-        ensures cause { HasCause (faults self.old) (misses self.old) (faults self.new) (misses self.new) result };
+        ensures cause { HasCause (faults self.old) (misses self.old) (faults self.new)
+            (misses self.new) result };
 
     /// Adds the piece at the file's end. After an error the file holds what it held and a front of the piece.
     fn append(&mut self, name: &str, piece: &[u8]) -> Result<(), ShelfError>
         ensures ok { OnOk result (files self.new ≡ with_more (files self.old) name.now piece.now) }
-        ensures err { OnErr result (KeptOrFront (files self.old) (files self.new) name.now piece.now) }
+        ensures err { OnErr result (KeptOrFront (files self.old)
+            (files self.new) name.now piece.now) }
         ensures present { IsOk result → Lacks (files self.old) name.now → ⊥ }
-        ensures absent { IsErrOf result ShelfError.Missing → (file : List ℕ) → held (files self.old) name.now ≡ Some file → ⊥ }
+        ensures absent { IsErrOf result ShelfError.Missing → (file : List ℕ)
+            → held (files self.old) name.now ≡ Some file → ⊥ }
         ensures only { IsErrOf result ShelfError.NoMemory → ⊥ }
-        ensures cause { HasCause (faults self.old) (misses self.old) (faults self.new) (misses self.new) result };
+        ensures cause { HasCause (faults self.old) (misses self.old) (faults self.new)
+            (misses self.new) result };
 }

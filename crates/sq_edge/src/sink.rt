@@ -19,9 +19,11 @@ pub trait Sink {
     /// Takes bytes from the front of the piece, and answers how many.
     fn put(&mut self, piece: &[u8]) -> Result<usize, SinkFault>
         ensures within { IfOk result (λ n. n ≤ length piece.now) }
-        ensures took { IfOk result (λ n. bytes self.new ≡ and_then_bytes (bytes self.old) (take n piece.now)) }
+        ensures took { IfOk result (λ n. bytes self.new
+            ≡ and_then_bytes (bytes self.old) (take n piece.now)) }
         ensures err { OnErr result (bytes self.new ≡ bytes self.old) }
         ensures later { faults self.old ≤ faults self.new }
         ensures failed { IsErr result → Rose (faults self.old) (faults self.new) }
-        ensures none { IfOk result (λ n. n ≡ 0 → 0 < length piece.now → Rose (faults self.old) (faults self.new)) };
+        ensures none { IfOk result (λ n. n ≡ 0 → 0 < length piece.now
+            → Rose (faults self.old) (faults self.new)) };
 }

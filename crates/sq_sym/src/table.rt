@@ -54,7 +54,8 @@ impl Table {
 
     /// Declares a name, and answers its position.
     pub fn declare(&mut self, alloc: Global, name: &str, what: Symbol) -> Result<u32, SymFault>
-        ensures ok { IfOk result (λ at. (at ≡ length self.old) × (self.new ≡ self.old ++ (name.now, what) ∷ [])) }
+        ensures ok { IfOk result (λ at. (at ≡ length self.old) ×
+            (self.new ≡ self.old ++ (name.now, what) ∷ [])) }
         ensures twice { IsErrOf result SymFault.Twice ↔ IsSome (found name.now self.old) }
         ensures err { OnErr result (self.new ≡ self.old) }
     {
@@ -114,7 +115,8 @@ fn add(
     what: Symbol,
 ) -> Result<(), AllocError>
     requires { get_by_text symbols.old name.now ≡ None }
-    ensures ok { OnOk result (seen symbols.new.entries ≡ seen symbols.old.entries ++ (name.now, what) ∷ []) }
+    ensures ok { OnOk result (seen symbols.new.entries
+        ≡ seen symbols.old.entries ++ (name.now, what) ∷ []) }
     ensures err { OnErr result (symbols.new.entries ≡ symbols.old.entries) }
     ensures length { OnOk result (length symbols.new.entries ≡ length symbols.old.entries + 1) }
 {

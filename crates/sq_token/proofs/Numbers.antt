@@ -1,12 +1,15 @@
 -- What `parse` answers on the text of a number.
-use Rattle.std.proofs.Common.{◌≡◌, ◌<◌, ◌^◌, ℕ, Bool, true, false, ◌&&◌, nat_lt, List, [], ◌∷◌, Option, Result, Ok, refl, subst, arith, IsTrue}
-use Rattle.std.proofs.lemmas.Str.Parse.{IsNumeralModel, numerals_by_value, tells_all_ascii_digits, parse_gives}
+use Rattle.std.proofs.Common.{◌≡◌, ◌<◌, ◌^◌, ℕ, Bool, true, false, ◌&&◌, nat_lt, List, [], ◌∷◌}
+use Rattle.std.proofs.Common.{Option, Result, Ok, refl, subst, arith, IsTrue}
+use Rattle.std.proofs.lemmas.Str.Parse.{IsNumeralModel, numerals_by_value, tells_all_ascii_digits}
+use Rattle.std.proofs.lemmas.Str.Parse.{parse_gives}
 use Rattle.std.proofs.lemmas.Bool.Decides.{nat_tests}
 use Rattle.std.specs.Str.{all_ascii_digits}
 use Rattle.std.specs.Str.Parse.{digits_value, ParsesUnsigned}
 use Rattle.std.specs.Result.{result_ok}
 use Rattle.sq_token.specs.declared.kind.TokenKind.{TokenKind}
-use Rattle.sq_token.specs.declared.kind.TokenKind.TheVariants.{Identifier, Reserved, Number, Punctuation}
+use Rattle.sq_token.specs.declared.kind.TokenKind.TheVariants.{Identifier, Reserved, Number}
+use Rattle.sq_token.specs.declared.kind.TokenKind.TheVariants.{Punctuation}
 use Rattle.sq_token.specs.Kinds.{is_number, is_of_kind, number_value}
 use Rattle.sq_token.specs.Sign.{sign, number_of}
 

@@ -1,5 +1,6 @@
 -- Reserved words and their texts.
-use Rattle.std.proofs.Common.{◌≡◌, ℕ, Bool, true, false, cond, List, [], ◌∷◌, Some, find, bytes_eq, refl, sym, ap, ◌∙◌, ◌↔◌}
+use Rattle.std.proofs.Common.{◌≡◌, ℕ, Bool, true, false, cond, List, [], ◌∷◌, Some, find, bytes_eq}
+use Rattle.std.proofs.Common.{refl, sym, ap, ◌∙◌, ◌↔◌}
 use Rattle.std.proofs.lemmas.Slice.Eq.{bytes_eq-Decides}
 use Rattle.sq_token.specs.declared.kind.Reserved.{Reserved}
 use Rattle.sq_token.specs.declared.kind.Reserved.TheVariants as w

@@ -1,13 +1,28 @@
 -- How each kind of token is written.
-use Rattle.std.specs.Prelude.{◌^◌, ℕ, Bool, false, ◌&&◌, ◌||◌, ◌==◌, nat_lt, List, [], ◌∷◌, Option, is_none, find, IsTrue, codes, bytes_eq, chars}
+use Rattle.std.specs.Prelude.{◌^◌, ℕ, Bool, false, ◌&&◌, ◌||◌, ◌==◌, nat_lt, List, [], ◌∷◌, Option}
+use Rattle.std.specs.Prelude.{is_none, find, IsTrue, codes, bytes_eq, chars}
 use Rattle.std.specs.Str.{is_utf8, all_ascii_digits}
 use Rattle.std.specs.Str.Parse.{digits_value}
 use Rattle.std.specs.List.{list_all}
 use Rattle.unicode_ident.specs.Ident.{is_xid_start, is_xid_continue}
 use Rattle.sq_token.specs.declared.kind.Reserved.{Reserved}
-use Rattle.sq_token.specs.declared.kind.Reserved.TheVariants.{Hash, Signature, Name, Abstract, Channel, Process, System, Axiom, Lemma, Equiv, Diff, Proof, Qed, Null, New, In, Out, If, Then, Else, Find, Such, That, Let, Forall, Exists, True, False, Empty, Not, Happens, Init, Pred, Input, Output, Cond, Exec, Frame, Fst, Snd, OfBool, Att, Index, Message, Boolean, Timestamp, Mutable, As, By, From}
+use Rattle.sq_token.specs.declared.kind.Reserved.TheVariants.{Hash, Signature, Name, Abstract}
+use Rattle.sq_token.specs.declared.kind.Reserved.TheVariants.{Channel, Process, System, Axiom}
+use Rattle.sq_token.specs.declared.kind.Reserved.TheVariants.{Lemma, Equiv, Diff, Proof, Qed, Null}
+use Rattle.sq_token.specs.declared.kind.Reserved.TheVariants.{New, In, Out, If, Then, Else, Find}
+use Rattle.sq_token.specs.declared.kind.Reserved.TheVariants.{Such, That, Let, Forall, Exists, True}
+use Rattle.sq_token.specs.declared.kind.Reserved.TheVariants.{False, Empty, Not, Happens, Init}
+use Rattle.sq_token.specs.declared.kind.Reserved.TheVariants.{Pred, Input, Output, Cond, Exec}
+use Rattle.sq_token.specs.declared.kind.Reserved.TheVariants.{Frame, Fst, Snd, OfBool, Att, Index}
+use Rattle.sq_token.specs.declared.kind.Reserved.TheVariants.{Message, Boolean, Timestamp, Mutable}
+use Rattle.sq_token.specs.declared.kind.Reserved.TheVariants.{As, By, From}
 use Rattle.sq_token.specs.declared.kind.Punctuation.{Punctuation}
-use Rattle.sq_token.specs.declared.kind.Punctuation.TheVariants.{Dot, Comma, Colon, Semicolon, Equals, Differs, Less, Greater, AtMost, Implies, LeftArrow, OpenParenthesis, CloseParenthesis, OpenBracket, CloseBracket, And, Or, Bar, Repeat, At, Arrow}
+use Rattle.sq_token.specs.declared.kind.Punctuation.TheVariants.{Dot, Comma, Colon, Semicolon}
+use Rattle.sq_token.specs.declared.kind.Punctuation.TheVariants.{Equals, Differs, Less, Greater}
+use Rattle.sq_token.specs.declared.kind.Punctuation.TheVariants.{AtMost, Implies, LeftArrow}
+use Rattle.sq_token.specs.declared.kind.Punctuation.TheVariants.{OpenParenthesis, CloseParenthesis}
+use Rattle.sq_token.specs.declared.kind.Punctuation.TheVariants.{OpenBracket, CloseBracket, And, Or}
+use Rattle.sq_token.specs.declared.kind.Punctuation.TheVariants.{Bar, Repeat, At, Arrow}
 use Rattle.sq_token.specs.declared.kind.TokenKind.{TokenKind}
 use Rattle.sq_token.specs.declared.kind.TokenKind.TheVariants as kind
 
@@ -88,7 +103,11 @@ punctuation_text Arrow = codes "->"
 
 -- all reserved words
 abbrev pub reserved_words : List Reserved
-reserved_words = Hash ∷ Signature ∷ Name ∷ Abstract ∷ Channel ∷ Process ∷ System ∷ Axiom ∷ Lemma ∷ Equiv ∷ Diff ∷ Proof ∷ Qed ∷ Null ∷ New ∷ In ∷ Out ∷ If ∷ Then ∷ Else ∷ Find ∷ Such ∷ That ∷ Let ∷ Forall ∷ Exists ∷ True ∷ False ∷ Empty ∷ Not ∷ Happens ∷ Init ∷ Pred ∷ Input ∷ Output ∷ Cond ∷ Exec ∷ Frame ∷ Fst ∷ Snd ∷ OfBool ∷ Att ∷ Index ∷ Message ∷ Boolean ∷ Timestamp ∷ Mutable ∷ As ∷ By ∷ From ∷ []
+reserved_words = Hash ∷ Signature ∷ Name ∷ Abstract ∷ Channel ∷ Process ∷ System ∷ Axiom ∷ Lemma
+    ∷ Equiv ∷ Diff ∷ Proof ∷ Qed ∷ Null ∷ New ∷ In ∷ Out ∷ If ∷ Then ∷ Else ∷ Find ∷ Such ∷ That
+    ∷ Let ∷ Forall ∷ Exists ∷ True ∷ False ∷ Empty ∷ Not ∷ Happens ∷ Init ∷ Pred ∷ Input
+    ∷ Output ∷ Cond ∷ Exec ∷ Frame ∷ Fst ∷ Snd ∷ OfBool ∷ Att ∷ Index ∷ Message ∷ Boolean
+    ∷ Timestamp ∷ Mutable ∷ As ∷ By ∷ From ∷ []
 
 -- the reserved word of this text
 unfoldable pub reserved_of : List ℕ → Option Reserved

@@ -179,7 +179,8 @@ pub fn reserved_of(text: &str) -> Option<Reserved>
 
 /// A text is found to be a reserved word exactly where it is that word's text.
 pub fn words_have_their_texts()
-    ensures { (text : List ℕ) (r : Reserved) → (spec.reserved_of text ≡ Some r) ↔ (text ≡ spec.reserved_text r) }
+    ensures { (text : List ℕ) (r : Reserved) → (spec.reserved_of text ≡ Some r)
+        ↔ (text ≡ spec.reserved_text r) }
 {}
 
 /// A symbol of the grammar.

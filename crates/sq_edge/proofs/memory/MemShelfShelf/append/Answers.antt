@@ -3,7 +3,8 @@ use Rattle.std.specs.declared.option.Option.{Option}
 use Rattle.std.specs.FinMap.{get, from_entries, insert}
 use Rattle.sq_edge.specs.Edge.{name_cmp}
 use Rattle.sq_edge.specs.Memory.{file_of, one_more}
-use Rattle.sq_edge.proofs.Named.{some_there, none_there, set_is_insert, append_there, append_gone, no_miss, one_miss, gives, starves}
+use Rattle.sq_edge.proofs.Named.{some_there, none_there, set_is_insert, append_there, append_gone}
+use Rattle.sq_edge.proofs.Named.{no_miss, one_miss, gives, starves}
 use Rattle.sq_edge.proofs.memory.MemShelfShelf.append.Goals as goal
 
 pub returns-in-None-clause-absent : goal.returns-in-None-clause-absent

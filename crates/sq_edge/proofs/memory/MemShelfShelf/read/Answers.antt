@@ -1,7 +1,8 @@
 use Rattle.std.proofs.Common.{◌≡◌, ℕ, List, Some, sym, ◌∙◌, ap, subst}
 use Rattle.sq_edge.specs.Edge.{IsPiece}
 use Rattle.sq_edge.specs.Memory.{file_of, one_more}
-use Rattle.sq_edge.proofs.Named.{some_there, none_there, item_at, is_piece, read_there, read_gone, no_miss, one_miss}
+use Rattle.sq_edge.proofs.Named.{some_there, none_there, item_at, is_piece, read_there, read_gone}
+use Rattle.sq_edge.proofs.Named.{no_miss, one_miss}
 use Rattle.sq_edge.proofs.memory.MemShelfShelf.read.Goals as goal
 
 pub returns-in_ok-piece_of-in-Some-clause-bytes : goal.returns-in_ok-piece_of-in-Some-clause-bytes
