@@ -3,7 +3,7 @@
 # A file rests on each file of definitions that one of its `use` lines names.
 set -eu
 cd "$(dirname "$0")/../crates"
-start=${1:-squirrel/specs/Headline.antt}
+start=${1:-sq_run/specs/Headline.antt}
 
 files_below() { # FILE: the definition files that its `use` lines name
   sed -n 's/^\(pub \)\?use Rattle\.\([a-z_]*\)\.specs\.\([A-Za-z.]*\).*/\2 \3/p' "$1" |
