@@ -409,18 +409,18 @@ module _ (e : EnvTree) (kept : is_environment e ≡ true) where
   four a b c d p q r s =
       both_true a (b && (c && d)) p (both_true b (c && d) q (both_true c d r s))
 
-  pub environment_name : (n : ℕ) → length e.names + 1 ≤ most_entries
-      → is_environment (record e { names = e.names ++ n ∷ [] }) ≡ true
-  environment_name n room =
+  pub environment_names : (ns : List ℕ) → length e.names + length ns ≤ most_entries
+      → is_environment (record e { names = e.names ++ ns }) ≡ true
+  environment_names ns room =
       subst (λ (d : EnvTree). is_environment d ≡ true)
       (λ i. record {
-        names = e.names ++ n ∷ [];
+        names = e.names ++ ns;
         funs = nothing_more e.funs i;
         systems = nothing_more e.systems i;
         stmts = nothing_more e.stmts i;
       })
-      (environment_extended e (n ∷ []) [] [] []
-      (four _ _ _ _ (room_for e.names (n ∷ []) most_entries room) no_more.1 no_more.2 no_more.3)
+      (environment_extended e ns [] [] []
+      (four _ _ _ _ (room_for e.names ns most_entries room) no_more.1 no_more.2 no_more.3)
       kept refl refl refl)
 
   pub environment_functions : (fs : List FunDecl) → length e.funs + length fs ≤ most_entries

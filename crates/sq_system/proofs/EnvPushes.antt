@@ -14,7 +14,7 @@ use Rattle.sq_system.specs.Limits.{most_entries}
 use Rattle.sq_system.specs.Statements.{EnvTree, stmt_tree}
 use Rattle.sq_system.specs.Environments.{env_tree, without_declarations, truncated}
 use Rattle.sq_system.specs.WellFormed.{is_environment, is_statement, is_well_sorted}
-use Rattle.sq_system.proofs.EnvLaws.{environment_name, environment_functions, environment_system}
+use Rattle.sq_system.proofs.EnvLaws.{environment_names, environment_functions, environment_system}
 use Rattle.sq_system.proofs.EnvLaws.{environment_statement, without_declarations_is}
 
 abbrev fields : List ℕ → List FunDecl → List (List Action) → List Stmt → EnvTree
@@ -84,12 +84,12 @@ map_push f [] y = refl
 map_push f (x ∷ xs) y = ap (λ (l : List _). f x ∷ l) (map_push f xs y)
 
 module _ {T E : Type 0} (e : Env) (r : Result T E) where
-  pub with_name : (n : ℕ) (new : List ℕ) → length e.names + 1 ≤ most_entries
-      → OnOk r (new ≡ e.names ++ n ∷ []) → OnErr r (new ≡ e.names)
+  pub with_names : (ns new : List ℕ) → length e.names + length ns ≤ most_entries
+      → OnOk r (new ≡ e.names ++ ns) → OnErr r (new ≡ e.names)
       → Kept new e.funs e.systems e.stmts
-  with_name n new room ok err =
-      after_push (λ l. Kept l e.funs e.systems e.stmts) r e.names (n ∷ []) new e.well_formed
-      (environment_name (env_tree e) e.well_formed n room) ok err
+  with_names ns new room ok err =
+      after_push (λ l. Kept l e.funs e.systems e.stmts) r e.names ns new e.well_formed
+      (environment_names (env_tree e) e.well_formed ns room) ok err
 
   pub with_functions : (fs new : List FunDecl) → length e.funs + length fs ≤ most_entries
       → are_declared any_function fs ≡ true

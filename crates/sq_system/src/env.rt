@@ -96,6 +96,19 @@ impl Env {
         Ok(number)
     }
 
+    /// Adds names with these counts of indices, all or none, and answers the number of the first
+    /// one.
+    pub fn add_names(&mut self, arities: &[u32]) -> Result<u32, NoMemory>
+        ensures ok { IfOk result (λ k. (k ≡ length self.old.names)
+            × (env_tree self.new
+            ≡ record (env_tree self.old) { names = self.old.names ++ arities.now })) }
+        ensures err { OnErr result (self.new ≡ self.old) }
+    {
+        let number = number_of(self.names.len(), arities.len())?;
+        self.names.extend_from_slice(arities)?;
+        Ok(number)
+    }
+
     /// Adds functions, and answers the number of the first one. The three of a signature are added
     /// together.
     pub fn add_functions(&mut self, more: &[FunDecl]) -> Result<u32, NoMemory>

@@ -90,3 +90,32 @@ impl From<SizeFault> for RuleFault {
         }
     }
 }
+
+impl From<SizeFault> for OccFault {
+    ghost use Rattle.std.specs.Prelude.{◌≡◌};
+    ghost use Rattle.sq_system.specs.Faults.{list_fault};
+
+    ghost from_gives = { λ f e. e ≡ list_fault f };
+
+    fn from(fault: SizeFault) -> Self {
+        match fault {
+            SizeFault::TooLarge => OccFault::TooLarge,
+            SizeFault::NoMemory => OccFault::NoMemory,
+        }
+    }
+}
+
+impl From<OccFault> for RuleFault {
+    ghost use Rattle.std.specs.Prelude.{◌≡◌};
+    ghost use Rattle.sq_system.specs.Faults.{unlisted};
+
+    ghost from_gives = { λ f e. e ≡ unlisted f };
+
+    fn from(fault: OccFault) -> Self {
+        match fault {
+            OccFault::HasSchema => RuleFault::HasSchema,
+            OccFault::TooLarge => RuleFault::TooLarge,
+            OccFault::NoMemory => RuleFault::NoMemory,
+        }
+    }
+}

@@ -1,13 +1,13 @@
-use Rattle.std.proofs.Common.{◌+◌, ◌≤◌, subst}
+use Rattle.std.proofs.Common.{◌+◌, ◌≤◌, [], ◌∷◌, subst}
 use Rattle.sq_system.specs.Limits.{most_entries}
-use Rattle.sq_system.proofs.EnvPushes.{with_name, same_names, on_err}
+use Rattle.sq_system.proofs.EnvPushes.{with_names, same_names, on_err}
 use Rattle.sq_system.proofs.env.Env.add_name.Goals as goal
 
 pub invariant_of-self : goal.invariant_of-self
 invariant_of-self c =
     record {
       well_formed =
-          with_name c.args.self.now c.push.result c.args.arity c.push.new.self
+          with_names c.args.self.now c.push.result (c.args.arity ∷ []) c.push.new.self
           (subst (λ n. n + 1 ≤ most_entries) c.len.ensures c.in_ok-number.ensures.1)
           c.push.ensures.ok c.push.ensures.err;
     }
