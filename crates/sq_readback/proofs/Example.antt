@@ -17,6 +17,7 @@ use Rattle.sq_readback.proofs.Stems.{candidate_named}
 abbrev pub scope : Context
 scope = record {
   system = 0;
+  given = [];
   vars = (codes "i", Index) ∷ [];
   schemas = [];
   table =
@@ -47,6 +48,7 @@ name_declared = (0, (codes "t", refl))
 
 plain : HasPlainNames scope
 plain = record {
+  nothing_given = refl;
   identifiers = (candidate_named Index 0 (omega arith), tt);
   declared_identifiers = (candidate_named Timestamp 0 (omega arith), tt);
   apart = one_place;

@@ -18,7 +18,7 @@ use Rattle.sq_print.specs.Names.{Names, function_word}
 use Rattle.sq_resolve.specs.Scopes.{Variable, Context}
 use Rattle.sq_resolve.specs.Resolved.{own_sort}
 use Rattle.sq_resolve.specs.Typed.{IsTerm, IsEquation}
-use Rattle.sq_readback.specs.Trees.{in_place, term_syntax}
+use Rattle.sq_printed.specs.Trees.{in_place, term_syntax}
 use Rattle.sq_readback.proofs.Terms.{placed_term, placed_sort}
 
 -- ---- functions

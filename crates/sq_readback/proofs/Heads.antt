@@ -1,12 +1,13 @@
 -- What the printed names of variables and symbols mean in their scope.
 use Rattle.std.proofs.Common.{◌≡◌, ◌<◌, ◌-◌, ℕ, zero, suc, Bool, true, false, ◌||◌, ◌==◌, List}
-use Rattle.std.proofs.Common.{[], ◌∷◌, length, map, reverse, Some, option_map, unwrap_or, is_some}
-use Rattle.std.proofs.Common.{slice_get, refl, sym, ap, ◌∙◌, subst, arith}
+use Rattle.std.proofs.Common.{[], ◌∷◌, length, map, reverse, Some, None, option_map, unwrap_or}
+use Rattle.std.proofs.Common.{is_some, slice_get, refl, sym, ap, ◌∙◌, subst, arith}
 use Rattle.std.specs.Str.{bytes_eq}
 use Rattle.std.proofs.lemmas.Bool.{false≢true}
 use Rattle.std.proofs.lemmas.Bool.Decides.{nat_tests}
 use Rattle.std.proofs.lemmas.Option.{slice_get-map}
 use Rattle.sq_base.specs.declared.sort.Sort.{Sort}
+use Rattle.sq_base.specs.declared.sort.Sort.TheVariants.{Message}
 use Rattle.sq_token.specs.Kinds.{IsIdentifier}
 use Rattle.sq_sym.specs.declared.symbol.Symbol.{Symbol}
 use Rattle.sq_sym.specs.declared.symbol.Symbol.TheVariants as symbol
@@ -21,7 +22,7 @@ use Rattle.sq_print.specs.Names.{spelling, name_word, action_word}
 use Rattle.sq_print.proofs.Candidates.{equal}
 use Rattle.sq_resolve.specs.declared.head.Head.{Head}
 use Rattle.sq_resolve.specs.declared.head.Head.TheVariants as head
-use Rattle.sq_resolve.specs.Scopes.{Variable, Context, meaning, symbol_head}
+use Rattle.sq_resolve.specs.Scopes.{Variable, Context, meaning, symbol_head, last_given}
 use Rattle.sq_readback.specs.Readable.{Declares}
 use Rattle.sq_readback.proofs.Standing.{AreNamesOf, IsDeclared, IsPlain, StandAround}
 
@@ -85,6 +86,9 @@ module _ (c : Context) (ns : Names) (actions : List Action) (same : AreNamesOf n
   used_symbol : (x : List ℕ) (r : ℕ × Symbol) → found x ns.table ≡ Some r → is_used ns x ≡ true
   used_symbol x r e = ap (λ o. is_some o || (among x ns.vars || among x ns.schemas)) e
 
+  none_given : (x : List ℕ) → last_given None x c.given ≡ None
+  none_given x = ap (last_given None x) plain.nothing_given
+
   -- ---- variables
 
   variable_at : (k : ℕ) (v : Variable) → slice_get c.vars k ≡ Some v
@@ -102,8 +106,10 @@ module _ (c : Context) (ns : Names) (actions : List Action) (same : AreNamesOf n
       let text : v.0 ≡ text_at ns.vars k = sym (ap (λ o. unwrap_or o []) at) in
       let named = plain.vars k v found_var.1.0 in
       let no_binder = st.unused v.0 (used_variable v.0 (among_at ns.vars k v.0 at)) in
+      let nothing = none_given v.0 in
       let known = named.1 in
-      let means : meaning c bs v.0 ≡ Some (head.Free k v.1) = rw (no_binder, known) refl in
+      let means : meaning c bs v.0 ≡ Some (head.Free k v.1) =
+      rw (no_binder, nothing, known) refl in
       subst (λ x. Means c bs x (head.Free k s)) text
       (record {
         identifier = named.0;
@@ -129,7 +135,7 @@ module _ (c : Context) (ns : Names) (actions : List Action) (same : AreNamesOf n
       })
 
   pub schema_means : (k : ℕ) → k < length c.schemas
-      → Means c bs (text_at ns.schemas k) (head.Schema k)
+      → Means c bs (text_at ns.schemas k) (head.Schema k Message)
   schema_means k h =
       let there = some_at c.schemas k h in
       let x = there.0 in
@@ -137,10 +143,12 @@ module _ (c : Context) (ns : Names) (actions : List Action) (same : AreNamesOf n
       let text : x ≡ text_at ns.schemas k = sym (ap (λ o. unwrap_or o []) at) in
       let named = plain.schemas k x there.1 in
       let no_binder = st.unused x (used_schema x (among_at ns.schemas k x at)) in
+      let nothing = none_given x in
       let no_variable = named.1 in
       let known = named.2 in
-      let means : meaning c bs x ≡ Some (head.Schema k) = rw (no_binder, no_variable, known) refl in
-      subst (λ y. Means c bs y (head.Schema k)) text
+      let means : meaning c bs x ≡ Some (head.Schema k Message) =
+      rw (no_binder, nothing, no_variable, known) refl in
+      subst (λ y. Means c bs y (head.Schema k Message)) text
       (record { identifier = named.0; meaning_is = means })
     where
       some_at : (xs : List (List ℕ)) (k : ℕ) → k < length xs
@@ -156,10 +164,11 @@ module _ (c : Context) (ns : Names) (actions : List Action) (same : AreNamesOf n
   declared_means x s d =
       let table_is : found x ns.table ≡ Some (d.place, s) = ap (found x) same.table ∙ d.found_is in
       let no_binder = st.unused x (used_symbol x (d.place, s) table_is) in
+      let nothing = none_given x in
       let no_variable = d.no_variable in
       let no_schema = d.no_schema in
       let known = d.found_is in
-      (d.place, rw (no_binder, no_variable, no_schema, known) refl)
+      (d.place, rw (no_binder, nothing, no_variable, no_schema, known) refl)
 
   pub name_means : (n k : ℕ) → slice_get c.names n ≡ Some k → Declares c.table (symbol.Name n)
       → Means c bs (name_word ns n) (head.Name n k)

@@ -1,6 +1,3 @@
-pub mod TreeTexts
-pub mod Tokens
-pub mod Reading
 pub mod Standing
 pub mod Around
 pub mod Stems
@@ -11,7 +8,6 @@ pub mod Whole
 pub mod Named
 pub mod Plain
 pub mod Writable
-pub mod Sentence
 pub mod Shallow
 pub mod Limits
 pub mod BinderCounts

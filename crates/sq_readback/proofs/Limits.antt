@@ -30,17 +30,18 @@ use Rattle.sq_print.specs.Forms.{rank, left_form, right_form, layout_of}
 use Rattle.sq_print.specs.Names.{Names, action_word, function_word, name_word, binder_name}
 use Rattle.sq_print.specs.Names.{bound_names}
 use Rattle.sq_print.proofs.Behind.{by_counts}
-use Rattle.sq_readback.specs.Trees.{in_place, called, index_trees, ts_syntax, laid_tree}
-use Rattle.sq_readback.specs.Trees.{constant_of, unary_of, constant_or, unary_or, applied}
-use Rattle.sq_readback.specs.Trees.{function_syntax, term_syntax, term_syntaxes}
-use Rattle.sq_readback.specs.Calls.{IsOnlyFormula}
-use Rattle.sq_readback.proofs.TreeTexts.{tree_rank_within, trees_count, count_is, two_trees}
-use Rattle.sq_readback.proofs.TreeTexts.{three_trees}
+use Rattle.sq_printed.specs.Trees.{in_place, called, index_trees, ts_syntax, laid_tree}
+use Rattle.sq_printed.specs.Trees.{constant_of, unary_of, constant_or, unary_or, applied}
+use Rattle.sq_printed.specs.Trees.{function_syntax, term_syntax, term_syntaxes}
+use Rattle.sq_readback.specs.Calls.{most_levels, IsOnlyFormula}
+use Rattle.sq_printed.proofs.TreeTexts.{tree_rank_within, trees_count, count_is, two_trees}
+use Rattle.sq_printed.proofs.TreeTexts.{three_trees}
 use Rattle.sq_readback.proofs.Shallow.{parse_gets}
 
 -- ---- the parser
 
-pub only_formula : (t : FormulaTree) → IsBuilt t → height t ≤ 256 → IsOnlyFormula (spelled t) t
+pub only_formula : (t : FormulaTree) → IsBuilt t → height t ≤ most_levels
+    → IsOnlyFormula (spelled t) t
 only_formula t built within =
     record {
       formula = formula;
@@ -50,9 +51,9 @@ only_formula t built within =
       shallow = never;
     }
   where
-    read : parse 256 place.Formula (spelled t) ≡ got t []
-    read = ap (parse 256 place.Formula) (sym (append-nil (spelled t)))
-        ∙ parse_gets 256 place.Formula t [] (tree_rank_within t) built within tt
+    read : parse most_levels place.Formula (spelled t) ≡ got t []
+    read = ap (parse most_levels place.Formula) (sym (append-nil (spelled t)))
+        ∙ parse_gets most_levels place.Formula t [] (tree_rank_within t) built within tt
 
     formula : IsFormula (spelled t) t []
     formula = formula_is (spelled t) t [] read within

@@ -35,9 +35,9 @@ use Rattle.sq_print.specs.Names.{Names, is_function, spelling, name_word, action
 use Rattle.sq_print.specs.Names.{bound_names}
 use Rattle.sq_print.specs.Printed.{idx_text}
 use Rattle.sq_resolve.specs.Scopes.{Variable, Context}
-use Rattle.sq_readback.specs.Trees.{in_place, called, index_trees, ts_syntax, term_syntax}
-use Rattle.sq_readback.specs.Trees.{term_syntaxes, IsWritable, AreWritable}
-use Rattle.sq_readback.specs.Reads.{AreIdentifiers, IsNamed, AreNamed}
+use Rattle.sq_printed.specs.Trees.{in_place, called, index_trees, ts_syntax, term_syntax}
+use Rattle.sq_printed.specs.Trees.{term_syntaxes, IsWritable, AreWritable}
+use Rattle.sq_printed.specs.Reads.{AreIdentifiers, IsNamed, AreNamed}
 use Rattle.sq_readback.specs.Readable.{Declares, HasWord, TimeHasWords, HasWords, HaveWords}
 use Rattle.sq_readback.specs.Readable.{binders, all_binders}
 use Rattle.sq_readback.proofs.Standing.{AreNamesOf, signature, IsPlain, StandAround}

@@ -17,7 +17,7 @@ use Rattle.sq_print.specs.Names.{is_name, is_function, is_action, spelling}
 use Rattle.sq_print.proofs.Candidates.{differ, equal}
 use Rattle.sq_resolve.specs.Scopes.{Variable, Context, last_from, last_of, last_name_from}
 use Rattle.sq_resolve.specs.Scopes.{last_name}
-use Rattle.sq_readback.specs.Reads.{AreIdentifiers}
+use Rattle.sq_printed.specs.Reads.{AreIdentifiers}
 use Rattle.sq_readback.specs.Readable.{HasPlainNames, Declares, own_names, own_actions}
 use Rattle.sq_readback.proofs.Standing.{IsDeclared, IsPlain}
 
@@ -281,6 +281,7 @@ module _ (c : Context) (p : HasPlainNames c) where
   pub plain_names : IsPlain c (own_actions c)
   plain_names =
       record {
+        nothing_given = p.nothing_given;
         vars = variables_plain;
         schemas = schemas_plain;
         names = names_plain;

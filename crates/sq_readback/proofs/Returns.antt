@@ -18,19 +18,20 @@ use Rattle.sq_term.specs.Measure.{size, depth}
 use Rattle.sq_term.specs.Syntax.{TermTree}
 use Rattle.sq_typing.specs.Functions.{is_value_sort}
 use Rattle.sq_print.specs.Printed.{term_text}
+use Rattle.sq_resolve.specs.Limits.{most_formula_nodes, most_formula_depth}
 use Rattle.sq_resolve.specs.declared.fault.ResolveFault.TheVariants.{TooLarge}
 use Rattle.sq_resolve.specs.Scopes.{Context}
 use Rattle.sq_resolve.specs.Resolved.{term_of}
 use Rattle.sq_resolve.specs.Typed.{IsTerm}
 use Rattle.sq_resolve.specs.Built.{within_limits, limited_term}
 use Rattle.sq_resolve.proofs.TypedLaws.{typed_term, one_term}
-use Rattle.sq_readback.specs.Trees.{term_syntax}
-use Rattle.sq_readback.specs.Reads.{sign_at, IsNamed, IsRead, signs_read}
+use Rattle.sq_printed.specs.Trees.{term_syntax}
+use Rattle.sq_printed.specs.Reads.{sign_at, IsNamed, IsRead, signs_read}
 use Rattle.sq_readback.specs.Readable.{names_of, own_actions, signature, IsReadable, HasFewNames}
 use Rattle.sq_readback.specs.Readable.{IsReadBack}
 use Rattle.sq_readback.specs.Calls.{IsWithinLimits, IsOnlyFormula, ComesBack, IsFormulaOf}
-use Rattle.sq_readback.proofs.TreeTexts.{text_is, is_formula, built}
-use Rattle.sq_readback.proofs.Reading.{text_read}
+use Rattle.sq_printed.proofs.TreeTexts.{text_is, is_formula, built}
+use Rattle.sq_printed.proofs.Reading.{text_read}
 use Rattle.sq_readback.proofs.Standing.{AreNamesOf}
 use Rattle.sq_readback.proofs.Writable.{writable}
 use Rattle.sq_readback.proofs.Around.{none_around}
@@ -38,7 +39,7 @@ use Rattle.sq_readback.proofs.Functions.{IsValue}
 use Rattle.sq_readback.proofs.Whole.{term_is}
 use Rattle.sq_readback.proofs.Named.{named}
 use Rattle.sq_readback.proofs.Plain.{plain_names}
-use Rattle.sq_readback.proofs.Sentence.{text_sentence}
+use Rattle.sq_printed.proofs.Sentence.{text_sentence}
 use Rattle.sq_readback.proofs.Limits.{only_formula, term_low}
 
 value : (s : Sort) → is_value_sort s ≡ true → IsValue s
@@ -93,11 +94,11 @@ apart c s t u h few i few' same =
     (subst (Is Formula b.tree) signs b.formula) a.formula in
     one_term c [] s a.tree t u a.term (subst (λ f. IsTerm c [] s f u) tree b.term)
 
-fits : (n k : ℕ) → n ≤ 65536 → k ≤ 1000 → within_limits n k ≡ true
+fits : (n k : ℕ) → n ≤ most_formula_nodes → k ≤ most_formula_depth → within_limits n k ≡ true
 fits n k a b =
-    let first : nat_le n 65536 ≡ true = grind (arith, nat_tests) in
-    let second : nat_le k 1000 ≡ true = grind (arith, nat_tests) in
-    ap (λ x. x && nat_le k 1000) first ∙ second
+    let first : nat_le n most_formula_nodes ≡ true = grind (arith, nat_tests) in
+    let second : nat_le k most_formula_depth ≡ true = grind (arith, nat_tests) in
+    ap (λ x. x && nat_le k most_formula_depth) first ∙ second
 
 pub calls_give : (c : Context) (s : Sort) (t : TermTree) → IsReadable c s t → HasFewNames c t
     → IsWithinLimits c t → ComesBack c s (term_text (names_of c) [] t) t

@@ -1,5 +1,5 @@
 -- What the names of a scope and of the binders around a place stand for.
-use Rattle.std.proofs.Common.{◌≡◌, ◌+◌, ℕ, suc, true, List, length, map, reverse, Some}
+use Rattle.std.proofs.Common.{◌≡◌, ◌+◌, ℕ, suc, true, List, [], length, map, reverse, Some}
 use Rattle.std.proofs.Common.{None, slice_get}
 use Rattle.sq_base.specs.declared.sort.Sort.{Sort}
 use Rattle.sq_token.specs.Kinds.{IsIdentifier}
@@ -45,6 +45,7 @@ pub record IsDeclared (c : Context) (x : List ℕ) (s : Symbol) : Type 0 where
 
 -- Each name is an identifier and stands for one thing, the names of declared symbols too.
 pub record IsPlain (c : Context) (own : List Action) : Type 0 where
+  pub nothing_given : c.given ≡ []
   pub vars : (k : ℕ) (v : Variable) → slice_get c.vars k ≡ Some v
       → IsIdentifier v.0 × (last_of v.0 c.vars ≡ Some (k, v.1))
   pub schemas : (k : ℕ) (x : List ℕ) → slice_get c.schemas k ≡ Some x

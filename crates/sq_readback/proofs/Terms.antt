@@ -24,7 +24,7 @@ use Rattle.sq_resolve.specs.Scopes.{Variable, Context, meaning, head_sort}
 use Rattle.sq_resolve.specs.Resolved.{own_sort, count_trees, moment, instance, name_symbol}
 use Rattle.sq_resolve.specs.Resolved.{macro_of}
 use Rattle.sq_resolve.specs.Typed.{IsIndex, AreIndices, IsTime, IsTerm}
-use Rattle.sq_readback.specs.Trees.{in_place, called, index_trees, ts_syntax, macro_of_term}
+use Rattle.sq_printed.specs.Trees.{in_place, called, index_trees, ts_syntax, macro_of_term}
 use Rattle.sq_readback.specs.Readable.{TimeHasWords}
 use Rattle.sq_readback.proofs.Standing.{AreNamesOf, signature, IsPlain, StandAround}
 use Rattle.sq_readback.proofs.Heads.{free_means, bound_means, action_means}

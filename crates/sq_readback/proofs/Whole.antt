@@ -42,9 +42,9 @@ use Rattle.sq_resolve.specs.Scopes.{Variable, Context, meaning}
 use Rattle.sq_resolve.specs.Resolved.{own_sort, count_trees, schema_variable, function}
 use Rattle.sq_resolve.specs.Resolved.{group_variables, macro_of, value_sort}
 use Rattle.sq_resolve.specs.Typed.{IsTerm, IsEquation, AreArguments, AreMessages}
-use Rattle.sq_readback.specs.Trees.{called}
-use Rattle.sq_readback.specs.Trees.{index_trees, ts_syntax, applied, function_syntax, macro_of_term}
-use Rattle.sq_readback.specs.Trees.{term_syntax, term_syntaxes, IsWritable, AreWritable}
+use Rattle.sq_printed.specs.Trees.{called}
+use Rattle.sq_printed.specs.Trees.{index_trees, ts_syntax, applied, function_syntax, macro_of_term}
+use Rattle.sq_printed.specs.Trees.{term_syntax, term_syntaxes, IsWritable, AreWritable}
 use Rattle.sq_readback.specs.Readable.{Declares, HasWord, HasWords, HaveWords, binders, all_binders}
 use Rattle.sq_readback.proofs.Standing.{AreNamesOf, signature, IsPlain, StandAround}
 use Rattle.sq_readback.proofs.Around.{one_around, next_fresh}
@@ -485,7 +485,7 @@ module _ (c : Context) (ns : Names) (actions : List Action) (same : AreNamesOf n
         let own : own_sort c bs (tree.name (text_at ns.schemas k)) ≡ Message = rw known refl in (
           subst (λ q. IsTerm c bs q (tree.name (text_at ns.schemas k)) (schema k))
               (same_sort_is Message s a.0)
-              (head.Schema k, (schema_variable k, ((m.meaning_is, refl), refl, refl))),
+              (head.Schema k Message, (schema_variable k, ((m.meaning_is, refl), refl, refl))),
           subst IsValue
               (sym own) tt,
         )

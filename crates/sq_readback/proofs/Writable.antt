@@ -12,7 +12,7 @@ use Rattle.sq_term.specs.Pure.{is_binder_sort}
 use Rattle.sq_term.specs.Symbols.{Kind, function_number}
 use Rattle.sq_typing.specs.Typing.{Signature, has_sort, have_sorts, argument_sort, result_sort}
 use Rattle.sq_typing.specs.Typing.{applies, are_indices}
-use Rattle.sq_readback.specs.Trees.{IsWritable, AreWritable}
+use Rattle.sq_printed.specs.Trees.{IsWritable, AreWritable}
 use Rattle.sq_readback.specs.Readable.{FindsBind, AllFindsBind}
 
 no_boolean : (b : Sort) → is_binder_sort b ≡ true → b ≢ Boolean

@@ -10,17 +10,22 @@ use Rattle.sq_ast.specs.Deep.{height}
 use Rattle.sq_parse_term.specs.Answers.{IsFormula, HasNone, IsTooDeep}
 use Rattle.sq_term.specs.Measure.{size}
 use Rattle.sq_term.specs.Syntax.{TermTree}
+use Rattle.sq_resolve.specs.Limits.{most_formula_nodes}
 use Rattle.sq_resolve.specs.Scopes.{Context}
 use Rattle.sq_resolve.specs.Resolved.{term_of}
 use Rattle.sq_resolve.specs.Built.{limited_term}
-use Rattle.sq_readback.specs.Trees.{term_syntax}
-use Rattle.sq_readback.specs.Reads.{sign_at}
+use Rattle.sq_printed.specs.Trees.{term_syntax}
+use Rattle.sq_printed.specs.Reads.{sign_at}
 use Rattle.sq_readback.specs.Readable.{names_of}
+
+-- the greatest depth of a formula that the parser reads
+abbrev pub most_levels : ℕ
+most_levels = 256
 
 -- the term and its syntax tree pass no limit
 pub record IsWithinLimits (c : Context) (t : TermTree) : Type 0 where
-  pub nodes : size t ≤ 65536
-  pub depth : height (term_syntax (names_of c) [] t) ≤ 256
+  pub nodes : size t ≤ most_formula_nodes
+  pub depth : height (term_syntax (names_of c) [] t) ≤ most_levels
 
 -- The parser of formulas may answer this tree for the tokens, with none of them left, and it may
 -- answer nothing else: no other

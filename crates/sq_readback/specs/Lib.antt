@@ -1,4 +1,2 @@
-pub mod Trees
-pub mod Reads
 pub mod Readable
 pub mod Calls

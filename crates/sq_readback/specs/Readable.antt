@@ -21,7 +21,7 @@ use Rattle.sq_ast.specs.declared.formula.Form.TheVariants.{Formula}
 use Rattle.sq_ast.specs.Tree.{FormulaTree}
 use Rattle.sq_ast.specs.Grammar.{Is}
 use Rattle.sq_resolve.specs.Typed.{IsTerm}
-use Rattle.sq_readback.specs.Reads.{IsRead, AreIdentifiers}
+use Rattle.sq_printed.specs.Reads.{IsRead, AreIdentifiers}
 
 -- the names that the scope's terms are printed with
 abbrev pub names_of : Context → Names
@@ -52,9 +52,10 @@ Declares table s = (k : ℕ) × ((x : List ℕ) × (slice_get table k ≡ Some (
 abbrev pub own_names : Context → List (List ℕ)
 own_names c = map (λ v. v.0) c.vars ++ c.schemas
 
--- All names are identifiers, and no name stands for two things. The built-in functions are written
--- by words and signs of their own.
+-- All names are identifiers, and no name stands for two things or is given another meaning. The
+-- built-in functions are written by words and signs of their own.
 pub record HasPlainNames (c : Context) : Type 0 where
+  pub nothing_given : c.given ≡ []
   pub identifiers : AreIdentifiers (own_names c)
   pub declared_identifiers : AreIdentifiers (map (λ d. d.0) c.table)
   pub apart : (j k : ℕ) (x : List ℕ) → slice_get (own_names c) j ≡ Some x

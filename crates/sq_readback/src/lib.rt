@@ -5,7 +5,7 @@ mod laws;
 mod returning;
 
 pub use laws::{
-    a_printed_term_is_a_formula, a_printed_term_is_read_as_its_tokens, a_printed_term_is_read_back,
-    reading_undoes_printing, terms_are_printed_apart, the_conditions_can_be_met,
+    a_printed_term_is_read_back, reading_undoes_printing, terms_are_printed_apart,
+    the_conditions_can_be_met,
 };
 pub use returning::print_and_read;

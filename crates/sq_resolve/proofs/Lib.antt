@@ -3,3 +3,8 @@ pub mod Limits
 pub mod Walks
 pub mod TypedLaws
 pub mod PlaceLaws
+pub mod Passes
+pub mod NodePlaces
+pub mod Further
+pub mod Meant
+pub mod Sorted

@@ -96,7 +96,7 @@ fault_judged {A} reading w x n h = by (head_arity h == n) (reading h) refl
     by false o e = refl
 
 module _ (c : Context) where
-  first_append : (ps qs : List Place)
+  pub first_append : (ps qs : List Place)
       → first_fault c (ps ++ qs) ≡ first_some (first_fault c ps) (first_fault c qs)
   first_append [] qs = refl
   first_append (p ∷ ps) qs =
@@ -129,7 +129,7 @@ module _ (c : Context) where
   no_arguments none e = refl
   no_arguments (more a xs) e = let n : ⊥ = grind (arith, nat_tests) in absurd n
 
-  identifier_alone : {A : Type 0} (reading : Head → Option A) (w : Sort) (bs : List Variable)
+  pub identifier_alone : {A : Type 0} (reading : Head → Option A) (w : Sort) (bs : List Variable)
       (x : List ℕ) (n : ℕ) (m : Option Head)
       → ((h : Head) → is_some (reading h) ≡ stands_for w h)
       → fault_of (judged reading w x n m) ≡ identifier_fault w x n m
@@ -137,17 +137,17 @@ module _ (c : Context) where
   identifier_alone reading w bs x n (Some h) same =
       fault_judged reading w x n h ∙ ap (λ b. head_fault b w x n h) (same h)
 
-  index_name : (bs : List Variable) (x : List ℕ) (n : ℕ)
+  pub index_name : (bs : List Variable) (x : List ℕ) (n : ℕ)
       → fault_of (judged as_index Index x n (meaning c bs x))
       ≡ identifier_fault Index x n (meaning c bs x)
   index_name bs x n = identifier_alone as_index Index bs x n (meaning c bs x) (λ h. refl)
 
-  moment_name : (bs : List Variable) (x : List ℕ) (n : ℕ)
+  pub moment_name : (bs : List Variable) (x : List ℕ) (n : ℕ)
       → fault_of (judged as_moment Timestamp x n (meaning c bs x))
       ≡ identifier_fault Timestamp x n (meaning c bs x)
   moment_name bs x n = identifier_alone as_moment Timestamp bs x n (meaning c bs x) (λ h. refl)
 
-  value_stands : (w : Sort) → is_value_sort w ≡ true → (h : Head)
+  pub value_stands : (w : Sort) → is_value_sort w ≡ true → (h : Head)
       → is_some (as_value w h) ≡ stands_for w h
   value_stands Message e h = refl
   value_stands Boolean e h = refl
@@ -304,7 +304,7 @@ module _ (c : Context) where
       → as_value w h ≡ Some v → (head_arity h == count_trees xs) ≡ true
       → fault_of (with_arguments (Ok v) (indices_of c bs xs) (λ i. arguments_of c bs i xs))
       ≡ first_fault c (argument_places c bs (index_count (Some h)) xs)
-  value_rest w (head.Schema k) v xs bs go e b = by (is_same_sort w Message) e
+  value_rest w (head.Schema k s) v xs bs go e b = by (is_same_sort w s) e
     where
       by : (s : Bool) → cond s (Some (schema_variable k)) None ≡ Some v
           → fault_of (with_arguments (Ok v) (indices_of c bs xs) (λ i. arguments_of c bs i xs))

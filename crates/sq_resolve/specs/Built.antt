@@ -16,6 +16,7 @@ use Rattle.sq_resolve.specs.declared.sized.Row.{Row}
 use Rattle.sq_resolve.specs.declared.sized.Row.TheVariants as r
 use Rattle.sq_resolve.specs.declared.fault.ResolveFault.{ResolveFault}
 use Rattle.sq_resolve.specs.declared.fault.ResolveFault.TheVariants.{TooLarge, NoMemory}
+use Rattle.sq_resolve.specs.Limits.{most_formula_nodes, most_formula_depth}
 use Rattle.sq_resolve.specs.Resolved.{Found, mapped, index_of, time_of}
 use Rattle.sq_resolve.specs.Scopes.{Context}
 use Rattle.sq_term.specs.TreeEquality.{is_same_sort}
@@ -29,7 +30,7 @@ pub record Measures (s : SizedTerm) (t : TermTree) : Type 0 where
 -- what was built for the tree
 abbrev pub IsBuilt : Built → TermTree → Type 0
 IsBuilt (Within s) t = Measures s t
-IsBuilt Passes t = size t ≤ 65536 → 1000 < depth t
+IsBuilt Passes t = size t ≤ most_formula_nodes → most_formula_depth < depth t
 
 pub record MeasuresRow (s : SizedRow) (ts : List TermTree) : Type 0 where
   pub terms_are : map term_tree s.terms.items ≡ ts
@@ -38,7 +39,7 @@ pub record MeasuresRow (s : SizedRow) (ts : List TermTree) : Type 0 where
 
 abbrev pub IsRow : Row → List TermTree → Type 0
 IsRow (r.Within s) ts = MeasuresRow s ts
-IsRow r.TooLarge ts = sizes (row ts) ≤ 65536 → 1000 < depths (row ts)
+IsRow r.TooLarge ts = sizes (row ts) ≤ most_formula_nodes → most_formula_depth < depths (row ts)
 
 -- a call that builds the term of a place, or answers the fault of the first place in it that has
 -- one
@@ -61,7 +62,7 @@ BuildsRow (Err e) m = e ≢ NoMemory → m ≡ Err e
 -- ---- outcomes
 
 abbrev pub within_limits : ℕ → ℕ → Bool
-within_limits nodes deep = nat_le nodes 65536 && nat_le deep 1000
+within_limits nodes deep = nat_le nodes most_formula_nodes && nat_le deep most_formula_depth
 
 -- an index or a timestamp of a tree that stands behind no binder
 abbrev pub arg_of : Context → Sort → FormulaTree → Found ArgTree

@@ -1,3 +1,4 @@
+pub mod Limits
 pub mod Scopes
 pub mod Resolved
 pub mod Typed
@@ -5,4 +6,6 @@ pub mod Built
 pub mod Shapes
 pub mod Heads
 pub mod Places
+pub mod Stops
+pub mod Fitting
 pub mod Below

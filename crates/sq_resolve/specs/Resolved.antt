@@ -99,8 +99,8 @@ pub data Value : Type 0 where
   function : Kind → ℕ → Value
 
 abbrev pub as_value : Sort → Head → Option Value
-as_value want (head.Schema k) =
-    if is_same_sort want Message then Some (schema_variable k) else None
+as_value want (head.Schema k s) =
+    if is_same_sort want s then Some (schema_variable k) else None
 as_value want (head.Name n k) =
     if is_same_sort want Message then Some (name_symbol n) else None
 as_value want (head.Function f i n s) =

@@ -3,7 +3,7 @@ use Rattle.std.specs.Prelude.{ℕ, ◌+◌, ◌-◌, List, [], ◌∷◌, Option
 use Rattle.std.specs.Prelude.{length, slice_get, option_map, ◌==◌}
 use Rattle.std.specs.Str.{bytes_eq}
 use Rattle.sq_base.specs.declared.sort.Sort.{Sort}
-use Rattle.sq_base.specs.declared.sort.Sort.TheVariants.{Message, Timestamp}
+use Rattle.sq_base.specs.declared.sort.Sort.TheVariants.{Message, Index, Timestamp}
 use Rattle.sq_term.specs.declared.action.Action.{Action}
 use Rattle.sq_term.specs.declared.signature.FunDecl.{FunDecl}
 use Rattle.sq_sym.specs.declared.symbol.Symbol.{Symbol}
@@ -11,6 +11,8 @@ use Rattle.sq_sym.specs.declared.symbol.Symbol.TheVariants as symbol
 use Rattle.sq_sym.specs.Declarations.{found}
 use Rattle.sq_system.specs.declared.env.Env.{Env}
 use Rattle.sq_resolve.specs.declared.scope.Scope.{Scope}
+use Rattle.sq_resolve.specs.declared.scope.Given.{Given}
+use Rattle.sq_resolve.specs.declared.scope.Given.TheVariants as given
 use Rattle.sq_resolve.specs.declared.head.Head.{Head}
 use Rattle.sq_resolve.specs.declared.head.Head.TheVariants as head
 
@@ -21,6 +23,7 @@ Variable = List ℕ × Sort
 -- the scope, with the declarations of the file
 pub record Context : Type 0 where
   pub system : ℕ
+  pub given : List (List ℕ × Given)
   pub vars : List Variable
   pub schemas : List (List ℕ)
   pub table : List (List ℕ × Symbol)
@@ -32,6 +35,7 @@ abbrev pub context : Scope → List (List ℕ × Symbol) → Env → Context
 context s table e =
     record {
       system = s.system;
+      given = s.given;
       vars = s.vars;
       schemas = s.schemas;
       table = table;
@@ -74,7 +78,17 @@ free_head (Some r) = Some (head.Free r.0 r.1)
 
 abbrev pub schema_head : Option ℕ → Option Head
 schema_head None = None
-schema_head (Some k) = Some (head.Schema k)
+schema_head (Some k) = Some (head.Schema k Message)
+
+-- the last given identifier with the name
+abbrev pub last_given : Option Given → List ℕ → List (List ℕ × Given) → Option Given
+last_given best x [] = best
+last_given best x (g ∷ gs) = last_given (if bytes_eq x g.0 then Some g.1 else best) x gs
+
+abbrev pub given_head : Option Given → Option Head
+given_head None = None
+given_head (Some (given.Index k)) = Some (head.Free k Index)
+given_head (Some (given.Value k s)) = Some (head.Schema k s)
 
 -- an action of the scope's system
 abbrev pub action_head : ℕ → Option (List Action) → Option Head
@@ -93,19 +107,21 @@ symbol_head c (Some (at, symbol.Action s a)) =
 symbol_head c (Some (at, s)) = None
 
 -- The meaning of an identifier behind the binders bs, the outermost first: the innermost binder
--- with the name, else a variable, else a schema variable, else a symbol.
+-- with the name, else what it is given to mean, else a variable, else a schema variable, else a
+-- symbol.
 abbrev pub meaning : Context → List Variable → List ℕ → Option Head
 meaning c bs x =
     first_some (bound_head (length bs) (last_of x bs))
+    (first_some (given_head (last_given None x c.given))
     (first_some (free_head (last_of x c.vars))
     (first_some (schema_head (last_name x c.schemas))
-    (symbol_head c (found x c.table))))
+    (symbol_head c (found x c.table)))))
 
 -- the sort that it stands for
 abbrev pub head_sort : Head → Sort
 head_sort (head.Bound k s) = s
 head_sort (head.Free k s) = s
-head_sort (head.Schema k) = Message
+head_sort (head.Schema k s) = s
 head_sort (head.Name n k) = Message
 head_sort (head.Function f i n s) = s
 head_sort (head.Action a k) = Timestamp
@@ -114,7 +130,7 @@ head_sort (head.Action a k) = Timestamp
 abbrev pub head_arity : Head → ℕ
 head_arity (head.Bound k s) = 0
 head_arity (head.Free k s) = 0
-head_arity (head.Schema k) = 0
+head_arity (head.Schema k s) = 0
 head_arity (head.Name n k) = k
 head_arity (head.Function f i n s) = i + n
 head_arity (head.Action a k) = k

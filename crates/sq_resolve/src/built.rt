@@ -4,6 +4,7 @@ ghost use Rattle.sq_term.specs.Measure as measure;
 ghost use Rattle.sq_term.specs.Syntax as t;
 ghost use Rattle.sq_term.specs.Syntax.{TermTree};
 ghost use Rattle.sq_term.specs.View.{term_tree, row};
+ghost use Rattle.sq_resolve.specs.Limits.{most_formula_nodes, most_formula_depth};
 ghost use Rattle.sq_resolve.specs.Built.{IsBuilt, IsRow, Measures, MeasuresRow};
 ghost use Rattle.sq_term.specs.Builtins.{builtin_kind};
 ghost use Rattle.sq_term.specs.Formulas as formula;
@@ -19,11 +20,18 @@ use sq_term::{Builtin, Idx, Term, depth, size};
 use sqlite_items::{Boxed, Items};
 use std::alloc::Global;
 
+/// The most nodes of a term that a file writes.
+pub const MOST_FORMULA_NODES: usize = 65_536;
+
+/// The greatest depth of a term that a file writes.
+pub const MOST_FORMULA_DEPTH: usize = 1_000;
+
 /// Whether a formula may have so many nodes and this depth.
 pub fn is_within(nodes: usize, depth: usize) -> bool
-    ensures { MatchBool result ((nodes ≤ 65536) × (depth ≤ 1000)) (nodes ≤ 65536 → 1000 < depth) }
+    ensures { MatchBool result ((nodes ≤ most_formula_nodes) × (depth ≤ most_formula_depth))
+        (nodes ≤ most_formula_nodes → most_formula_depth < depth) }
 {
-    nodes <= 65536 && depth <= 1000
+    nodes <= MOST_FORMULA_NODES && depth <= MOST_FORMULA_DEPTH
 }
 
 /// A term that is shallow by itself, with its measures.
@@ -76,7 +84,7 @@ pub fn call(f: u32, indices: Seq<Idx>, args: Row) -> Built
     match args {
         Row::TooLarge => Built::TooLarge,
         Row::Within(args) => {
-            if indices.len() > 65536 {
+            if indices.len() > MOST_FORMULA_NODES {
                 Built::TooLarge
             } else {
                 call_within(f, indices, args)
@@ -86,7 +94,7 @@ pub fn call(f: u32, indices: Seq<Idx>, args: Row) -> Built
 }
 
 fn call_within(f: u32, indices: Seq<Idx>, args: SizedRow) -> Built
-    requires { length indices ≤ 65536 }
+    requires { length indices ≤ most_formula_nodes }
     ensures { (ts : List TermTree) → MeasuresRow args ts
         → IsBuilt result (t.fun (kind_of f) indices (row ts)) }
 {

@@ -1,11 +1,11 @@
 // What an identifier means.
-ghost use Rattle.std.specs.Prelude.{◌≡◌, ◌+◌, None, option_map, length};
+ghost use Rattle.std.specs.Prelude.{◌≡◌, ◌+◌, None, Some, option_map, length};
 ghost use Rattle.sq_resolve.specs.Scopes as spec;
 ghost use Rattle.sq_resolve.specs.Scopes.{context, head_sort, head_arity};
 ghost use Rattle.std.specs.Str.{bytes_eq};
 ghost use Rattle.sq_sym.specs.Declarations.{found};
 
-use crate::scope::Scope;
+use crate::scope::{Given, Scope};
 use sq_base::{Seq, Sort, Text};
 use sq_sym::{Symbol, Table};
 use sq_system::Env;
@@ -18,7 +18,8 @@ pub enum Head {
     Bound(usize, Sort),
     /// A variable of the scope and its sort.
     Free(usize, Sort),
-    Schema(usize),
+    /// A schema variable and its sort. That of a statement is a message.
+    Schema(usize, Sort),
     /// A name and its count of indices.
     Name(u32, u32),
     /// A function with its counts of indices and of arguments, and the sort of its result.
@@ -32,8 +33,8 @@ impl Head {
         ensures { result ≡ head_sort self.now }
     {
         match *self {
-            Head::Bound(_, sort) | Head::Free(_, sort) => sort,
-            Head::Schema(_) | Head::Name(_, _) => Sort::Message,
+            Head::Bound(_, sort) | Head::Free(_, sort) | Head::Schema(_, sort) => sort,
+            Head::Name(_, _) => Sort::Message,
             Head::Function(_, _, _, result) => result,
             Head::Action(_, _) => Sort::Timestamp,
         }
@@ -44,7 +45,7 @@ impl Head {
         ensures { result ≡ head_arity self.now }
     {
         match *self {
-            Head::Bound(_, _) | Head::Free(_, _) | Head::Schema(_) => 0,
+            Head::Bound(_, _) | Head::Free(_, _) | Head::Schema(_, _) => 0,
             Head::Name(_, indices) | Head::Action(_, indices) => u64::from(indices),
             Head::Function(_, indices, args, _) => u64::from(indices) + u64::from(args),
         }
@@ -90,6 +91,27 @@ fn last_name(names: &[Text], name: &str) -> Option<usize>
     best
 }
 
+fn last_given(given: &[(Text, Given)], name: &str) -> Option<Given>
+    ensures { result ≡ spec.last_given None name.now given.now }
+{
+    let mut best = None;
+    for entry in given {
+        if is_named(&entry.0, name) {
+            best = Some(entry.1);
+        }
+    }
+    best
+}
+
+fn given_head(given: Given) -> Head
+    ensures { Some result ≡ spec.given_head (Some given) }
+{
+    match given {
+        Given::Index(k) => Head::Free(k as usize, Sort::Index),
+        Given::Value(k, sort) => Head::Schema(k as usize, sort),
+    }
+}
+
 fn symbol_head(r: &Resolver<'_>, name: &str) -> Option<Head>
     ensures { result ≡ spec.symbol_head (context r.now.scope.now r.now.table.now r.now.env.now)
         (found name.now r.now.table.now) }
@@ -122,11 +144,14 @@ pub fn meaning(r: &Resolver<'_>, binders: &[(Text, Sort)], name: &str) -> Option
     if let Some((at, sort)) = last_of(binders, name) {
         return Some(Head::Bound(binders.len().saturating_sub(1).saturating_sub(at), sort));
     }
+    if let Some(given) = last_given(r.scope.given.as_slice(), name) {
+        return Some(given_head(given));
+    }
     if let Some((at, sort)) = last_of(r.scope.vars.as_slice(), name) {
         return Some(Head::Free(at, sort));
     }
     if let Some(at) = last_name(r.scope.schemas.as_slice(), name) {
-        return Some(Head::Schema(at));
+        return Some(Head::Schema(at, Sort::Message));
     }
     symbol_head(r, name)
 }

@@ -134,7 +134,7 @@ pub fn value_head(
         (scopes.meaning (context_of r.now) binders.now name.now)) }
 {
     match known(r, binders, name, args)? {
-        Head::Schema(k) if want == Sort::Message => Ok(Value::Schema(number(k)?)),
+        Head::Schema(k, sort) if want == sort => Ok(Value::Schema(number(k)?)),
         Head::Name(n, _) if want == Sort::Message => Ok(Value::Name(n)),
         Head::Function(f, indices, _, result) if want == result => Ok(Value::Function(f, indices)),
         head => Err(ResolveFault::SortClash(want, head.sort())),

@@ -1,5 +1,5 @@
 // What the definition of `resolve` comes to, in the words of the sorts.
-ghost use Rattle.std.specs.Prelude.{◌≡◌, Ok, true, List};
+ghost use Rattle.std.specs.Prelude.{◌≡◌, ℕ, Ok, true, List, map};
 ghost use Rattle.sq_ast.specs.Tree.{FormulaTree};
 ghost use Rattle.sq_term.specs.declared.term.Idx.{Idx};
 ghost use Rattle.sq_term.specs.Syntax.{TermTree, TsTree};
@@ -8,6 +8,7 @@ ghost use Rattle.sq_resolve.specs.Scopes.{Context, Variable};
 ghost use Rattle.sq_resolve.specs.Resolved.{term_of, index_of, time_of};
 ghost use Rattle.sq_resolve.specs.Typed.{IsTerm, IsIndex, IsTime};
 ghost use Rattle.sq_resolve.specs.Places.{places, first_fault, fault_of};
+ghost use Rattle.sq_resolve.specs.Stops.{nodes, levels};
 
 use sq_base::Sort;
 
@@ -43,4 +44,11 @@ pub fn a_refusal_is_that_of_the_first_place()
         → fault_of (index_of c around f) ≡ first_fault c (places c around Sort.Index f) }
     ensures timestamp { (c : Context) (around : List Variable) (f : FormulaTree)
         → fault_of (time_of c around f) ≡ first_fault c (places c around Sort.Timestamp f) }
+{}
+
+/// A formula has one place at each of its nodes, in the same order.
+pub fn a_formula_has_a_place_at_each_node()
+    ensures trees { (c : Context) (around : List Variable) (want : Sort) (d : ℕ) (f : FormulaTree)
+        → map (λ p. p.tree) (places c around want f) ≡ map (λ n. n.0) (nodes d f) }
+    ensures depths { (d : ℕ) (f : FormulaTree) → levels d f ≡ map (λ n. n.1) (nodes d f) }
 {}

@@ -1,5 +1,6 @@
 // Terms and rows of terms with their measures.
 ghost use Rattle.std.specs.Prelude.{◌≤◌};
+ghost use Rattle.sq_resolve.specs.Limits.{most_formula_nodes, most_formula_depth};
 
 use sq_term::Term;
 
@@ -9,8 +10,8 @@ pub struct SizedTerm {
     pub term: Term,
     pub nodes: u32,
     pub depth: u32,
-    ghost few: { nodes ≤ 65536 },
-    ghost shallow: { depth ≤ 1000 },
+    ghost few: { nodes ≤ most_formula_nodes },
+    ghost shallow: { depth ≤ most_formula_depth },
 }
 
 /// A term within the limits of a formula, or the knowledge that it would pass them.
@@ -28,8 +29,8 @@ pub struct SizedRow {
     pub terms: Vec<Term>,
     pub nodes: u32,
     pub depth: u32,
-    ghost few: { nodes ≤ 65536 },
-    ghost shallow: { depth ≤ 1000 },
+    ghost few: { nodes ≤ most_formula_nodes },
+    ghost shallow: { depth ≤ most_formula_depth },
 }
 
 /// Terms within the limits together, or the knowledge that they would pass them.

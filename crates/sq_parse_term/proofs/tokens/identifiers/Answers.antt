@@ -1,5 +1,4 @@
 use Rattle.std.proofs.Common.{◌≡◌, ◌-◌, ◌+◌, length, arith}
-use Rattle.sq_token.specs.Sign.{signs}
 use Rattle.sq_parse_term.specs.Parse.{identifier}
 use Rattle.sq_parse_term.proofs.Turns.{turn_last, turn_next, turn_fails, turn_out, err_reads}
 use Rattle.sq_parse_term.proofs.Steps.{not_eaten}

@@ -28,11 +28,11 @@ use Rattle.sq_ast.specs.Grammar.{macro_word, sort_word, names_spelled, more_name
 use Rattle.sq_ast.specs.Grammar.{group_spelled, groups_spelled, more_groups_spelled, spelled}
 use Rattle.sq_ast.specs.Grammar.{list_spelled, more_spelled}
 use Rattle.sq_print.specs.Printed.{joined}
-use Rattle.sq_readback.specs.Trees.{group_text, text_of, texts_of}
-use Rattle.sq_readback.specs.Reads.{sign_at, signs_read, AreIdentifiers, AreNamedGroups, IsNamed}
-use Rattle.sq_readback.specs.Reads.{AreNamed}
-use Rattle.sq_readback.proofs.Tokens.{nothing_left, identifier_word, used, dot_ends, dot_first}
-use Rattle.sq_readback.proofs.Reading.{tree_read}
+use Rattle.sq_printed.specs.Trees.{group_text, text_of, texts_of}
+use Rattle.sq_printed.specs.Reads.{sign_at, signs_read, AreIdentifiers, AreNamedGroups, IsNamed}
+use Rattle.sq_printed.specs.Reads.{AreNamed}
+use Rattle.sq_printed.proofs.Tokens.{nothing_left, identifier_word, used, dot_ends, dot_first}
+use Rattle.sq_printed.proofs.Reading.{tree_read}
 
 -- ---- the text is in UTF-8
 

@@ -35,7 +35,7 @@ use Rattle.sq_lex.specs.Lex.{lexeme, lexemes, prepend}
 use Rattle.std.proofs.lemmas.Bool.{and_parts}
 use Rattle.sq_lex.proofs.Symbols.{ascii}
 use Rattle.sq_lex.proofs.Steps.{at_token}
-use Rattle.sq_readback.specs.Reads.{sign_at, signs_read, IsRead}
+use Rattle.sq_printed.specs.Reads.{sign_at, signs_read, IsRead}
 
 -- ---- a token and what follows
 

@@ -1,5 +1,5 @@
-use Rattle.sq_readback.proofs.TreeTexts.{text_is, is_formula}
-use Rattle.sq_readback.proofs.laws.a_printed_term_is_a_formula.Goals as goal
+use Rattle.sq_printed.proofs.TreeTexts.{text_is, is_formula}
+use Rattle.sq_printed.proofs.laws.a_printed_term_is_a_formula.Goals as goal
 
 pub returns-clause-text : goal.returns-clause-text
 returns-clause-text c = text_is

@@ -17,15 +17,15 @@ use Rattle.sq_ast.specs.Grammar.{macro_word, sort_word, names_spelled, group_spe
 use Rattle.sq_ast.specs.Grammar.{groups_spelled, more_groups_spelled, spelled, list_spelled}
 use Rattle.sq_ast.specs.Grammar.{more_spelled}
 use Rattle.sq_print.specs.Printed.{joined}
-use Rattle.sq_readback.specs.Trees.{group_text, text_of, texts_of}
-use Rattle.sq_readback.specs.Reads.{IsRead, AreIdentifiers, AreNamedGroups, IsNamed, AreNamed}
-use Rattle.sq_readback.proofs.Tokens.{Ends, Begins, moved, space_first, nothing_left, space_ends}
-use Rattle.sq_readback.proofs.Tokens.{comma_ends, colon_ends, at_ends, open_ends, close_ends}
-use Rattle.sq_readback.proofs.Tokens.{greater_ends, word_begins, identifier_word, word_first}
-use Rattle.sq_readback.proofs.Tokens.{reserved_first, used, comma_first, colon_first, at_first}
-use Rattle.sq_readback.proofs.Tokens.{close_first, greater_first, open_first, less_first, and_first}
-use Rattle.sq_readback.proofs.Tokens.{or_first, implies_first, differs_first, at_most_first}
-use Rattle.sq_readback.proofs.Tokens.{equals_first, below_first}
+use Rattle.sq_printed.specs.Trees.{group_text, text_of, texts_of}
+use Rattle.sq_printed.specs.Reads.{IsRead, AreIdentifiers, AreNamedGroups, IsNamed, AreNamed}
+use Rattle.sq_printed.proofs.Tokens.{Ends, Begins, moved, space_first, nothing_left, space_ends}
+use Rattle.sq_printed.proofs.Tokens.{comma_ends, colon_ends, at_ends, open_ends, close_ends}
+use Rattle.sq_printed.proofs.Tokens.{greater_ends, word_begins, identifier_word, word_first}
+use Rattle.sq_printed.proofs.Tokens.{reserved_first, used, comma_first, colon_first, at_first}
+use Rattle.sq_printed.proofs.Tokens.{close_first, greater_first, open_first, less_first, and_first}
+use Rattle.sq_printed.proofs.Tokens.{or_first, implies_first, differs_first, at_most_first}
+use Rattle.sq_printed.proofs.Tokens.{equals_first, below_first}
 
 -- a reserved word in front of a text that goes on with no name
 said : (w : Reserved) (rest : List ℕ) (ss : List Sign) → Ends rest → IsRead rest ss

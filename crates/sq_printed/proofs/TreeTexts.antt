@@ -40,10 +40,10 @@ use Rattle.sq_print.specs.Names.{Names, name_word, action_word, function_word, b
 use Rattle.sq_print.specs.Names.{bound_names}
 use Rattle.sq_print.specs.Printed.{sort_text, macro_text, joined, call, placed, laid, by_layout}
 use Rattle.sq_print.specs.Printed.{idx_text, idx_texts, ts_text, quantified, term_text, part_texts}
-use Rattle.sq_readback.specs.Trees.{text_of, texts_of, in_place, called, index_trees, ts_syntax}
-use Rattle.sq_readback.specs.Trees.{macro_of_term, operator, laid_tree, constant_of, unary_of}
-use Rattle.sq_readback.specs.Trees.{constant_or, unary_or, applied, function_syntax, term_syntax}
-use Rattle.sq_readback.specs.Trees.{term_syntaxes, IsWritable, AreWritable}
+use Rattle.sq_printed.specs.Trees.{text_of, texts_of, in_place, called, index_trees, ts_syntax}
+use Rattle.sq_printed.specs.Trees.{macro_of_term, operator, laid_tree, constant_of, unary_of}
+use Rattle.sq_printed.specs.Trees.{constant_or, unary_or, applied, function_syntax, term_syntax}
+use Rattle.sq_printed.specs.Trees.{term_syntaxes, IsWritable, AreWritable}
 use Rattle.sq_print.proofs.Behind.{by_counts, count_parts}
 
 -- ---- texts

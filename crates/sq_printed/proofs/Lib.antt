@@ -1,0 +1,4 @@
+pub mod TreeTexts
+pub mod Tokens
+pub mod Reading
+pub mod Sentence
