@@ -284,7 +284,7 @@ done_lists words files fault miss rose before new name file old text answers is 
     let same : a.0 ≡ text =
     text_of_told old text a.0 new wrote
     (a.2 ∙ ap (λ (b : Option (List ℕ)). and_then_bytes b a.0) told) in
-    subst (ListsProved file) same (lists_proved file a.0 (a.1 file there))
+    subst (ListsProved file) same (lists_proved file a.0 (a.1.1 file there))
 
 pub ended_done : (words : Option (List ℕ)) (files : Option Files) (fault miss rose : Type 0)
     (before new : Option (List ℕ)) (result : Status) (name file old text : List ℕ)

@@ -6,7 +6,7 @@ use Rattle.std.specs.declared.option.Option.{Option}
 use Rattle.sq_edge.specs.declared.status.Status.{Status}
 use Rattle.sq_edge.specs.declared.status.Status.TheVariants.{Done, Refused, Usage, Missing}
 use Rattle.sq_edge.specs.declared.status.Status.TheVariants.{ShelfFault, OutFault, Limit, NoMemory}
-use Rattle.sq_edge.specs.Edge.{Files, held, and_then_bytes}
+use Rattle.sq_edge.specs.Edge.{Files, held, Lacks, and_then_bytes}
 use Rattle.sq_run.specs.declared.answer.Answer.{Answer}
 use Rattle.sq_run.specs.Answering.{IsVerdict}
 use Rattle.sq_run.specs.Run.{answer_for, limit_text, usage_text, IsMeant, IsMeantFor, IsPut}
@@ -40,7 +40,7 @@ same_answer file bytes is =
 -- a verdict on the file is meant
 verdict_meant : (name : List ℕ) (files : Option Files) (fault miss : Type 0) (status : Status)
     (text : List ℕ) → IsVerdict status
-    → ((file : List ℕ) → held files name ≡ Some file
+    → (Lacks files name → ⊥) × ((file : List ℕ) → held files name ≡ Some file
     → answer_for file ≡ record { status = status; text = text })
     → IsMeantFor name files fault miss status text
 verdict_meant name files fault miss Done text v h = h
@@ -54,11 +54,12 @@ verdict_meant name files fault miss NoMemory text v h = absurd v
 
 pub meant_for : (name : List ℕ) (files : Option Files) (fault miss : Type 0) (bytes : List ℕ)
     (a : Answer) → (a ≡ answer_for bytes) × IsVerdict a.status
+    → (Lacks files name → ⊥)
     → ((file : List ℕ) → held files name ≡ Some file → bytes ≡ take 1048577 file)
     → IsMeantFor name files fault miss a.status a.text
-meant_for name files fault miss bytes a is read =
+meant_for name files fault miss bytes a is there read =
     verdict_meant name files fault miss a.status a.text is.1
-    (λ file h. same_answer file bytes (read file h) ∙ sym is.0)
+    (there, λ file h. same_answer file bytes (read file h) ∙ sym is.0)
 
 module _ (meant : Status → List ℕ → Type 0) (old new : Option (List ℕ)) (rose : Type 0)
     (text : List ℕ) where
@@ -88,11 +89,11 @@ pub completes : (name file : List ℕ) (files : Option Files) (fault miss : Type
     → held files name ≡ Some file → (fault → ⊥) → (miss → ⊥) → (rose → ⊥)
     → (result ≡ (answer_for file).status) ⊎ (result ≡ NoMemory)
 completes name file files fault miss old new rose Done a h f m r =
-    inl (sym (ap (λ (x : Answer). x.status) (a.1 file h)))
+    inl (sym (ap (λ (x : Answer). x.status) (a.1.1 file h)))
 completes name file files fault miss old new rose Refused a h f m r =
-    inl (sym (ap (λ (x : Answer). x.status) (a.1 file h)))
+    inl (sym (ap (λ (x : Answer). x.status) (a.1.1 file h)))
 completes name file files fault miss old new rose Limit a h f m r =
-    inl (sym (ap (λ (x : Answer). x.status) (a.1 file h)))
+    inl (sym (ap (λ (x : Answer). x.status) (a.1.1 file h)))
 completes name file files fault miss old new rose Usage a h f m r = absurd a.1
 completes name file files fault miss old new rose Missing a h f m r = absurd (m a.1.0)
 completes name file files fault miss old new rose ShelfFault a h f m r = absurd (f a.1.0)

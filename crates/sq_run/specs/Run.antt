@@ -7,7 +7,7 @@ use Rattle.std.specs.Str.{bytes_eq}
 use Rattle.sq_edge.specs.declared.status.Status.{Status}
 use Rattle.sq_edge.specs.declared.status.Status.TheVariants.{Usage, Missing, ShelfFault, OutFault}
 use Rattle.sq_edge.specs.declared.status.Status.TheVariants.{Limit, NoMemory}
-use Rattle.sq_edge.specs.Edge.{Files, held, and_then_bytes}
+use Rattle.sq_edge.specs.Edge.{Files, held, Lacks, and_then_bytes}
 use Rattle.sq_run.specs.declared.answer.Answer.{Answer}
 use Rattle.sq_run.specs.Answering.{most_bytes, answer_of}
 
@@ -49,8 +49,9 @@ IsMeantFor name files fault miss Usage text = ⊥
 IsMeantFor name files fault miss OutFault text = ⊥
 IsMeantFor name files fault miss NoMemory text = ⊥
 IsMeantFor name files fault miss status text =
-    (file : List ℕ) → held files name ≡ Some file
-    → answer_for file ≡ record { status = status; text = text }
+    (Lacks files name → ⊥)
+    × ((file : List ℕ) → held files name ≡ Some file
+    → answer_for file ≡ record { status = status; text = text })
 
 -- What a run with these words is to answer.
 abbrev pub IsMeant : Option (List ℕ) → Option Files → Type 0 → Type 0 → Status → List ℕ

@@ -1,6 +1,6 @@
 // Reading a file.
 ghost use Rattle.std.specs.Prelude.{◌≡◌, ℕ, List, Some, take, IfOk, IsErrOf};
-ghost use Rattle.sq_edge.specs.Edge.{held, HasCause};
+ghost use Rattle.sq_edge.specs.Edge.{held, HasCause, Lacks};
 
 use sq_edge::{Shelf, ShelfError};
 use std::alloc::Global;
@@ -14,6 +14,7 @@ const PIECE: usize = 65_536;
 pub fn read_file<F: Shelf>(alloc: Global, shelf: &mut F, name: &str) -> Result<Vec<u8>, ShelfError>
     ensures bytes { IfOk result (λ bytes. (file : List ℕ)
         → held (F.files shelf.old) name.now ≡ Some file → bytes.items ≡ take 1048577 file) }
+    ensures present { IfOk result (λ _. Lacks (F.files shelf.old) name.now → ⊥) }
     ensures absent { IsErrOf result ShelfError.Missing
         → (file : List ℕ) → held (F.files shelf.old) name.now ≡ Some file → ⊥ }
     ensures files { F.files shelf.new ≡ F.files shelf.old }

@@ -1,7 +1,7 @@
 use Rattle.std.proofs.Common.{◌≡◌, ◌∙◌, ◌++◌, ℕ, List, length, length-append, arith, sym, ap}
-use Rattle.std.proofs.Common.{vec_len}
+use Rattle.std.proofs.Common.{vec_len, subst, refl}
 use Rattle.std.proofs.lemmas.Bool.Decides.{nat_tests}
-use Rattle.sq_edge.specs.Edge.{held}
+use Rattle.sq_edge.specs.Edge.{held, Lacks}
 use Rattle.sq_run.proofs.Bytes.{read_more, read_all, read_most}
 use Rattle.sq_run.proofs.reading.read_file.Goals as goal
 
@@ -28,6 +28,8 @@ pieces-preserved g c =
           (c.pieces.invariant.front file is)
           (c.in_ok-piece.ensures.bytes file
           (ap (λ f. held f c.args.name.now) c.pieces.invariant.files ∙ is)) grown;
+      present = λ some lacks. c.in_ok-piece.ensures.present refl
+          (subst (λ f. Lacks f c.args.name.now) (sym c.pieces.invariant.files) lacks);
       files = c.in_ok-piece.ensures.files ∙ c.pieces.invariant.files;
       faults = omega (arith, c.in_ok-piece.ensures.cause.faults_rise, c.pieces.invariant.faults);
       misses = omega (arith, c.in_ok-piece.ensures.cause.misses_rise, c.pieces.invariant.misses);
@@ -53,8 +55,19 @@ returns-then-is_empty-clause-bytes g c file is =
       c.pieces-test.true,
     )) none
 
+pub returns-then-is_empty-clause-present : goal.returns-then-is_empty-clause-present
+returns-then-is_empty-clause-present g c lacks =
+    c.in_ok-piece.ensures.present refl
+    (subst (λ f. Lacks f c.args.name.now) (sym c.pieces.invariant.files) lacks)
+
 pub returns-clause-bytes : goal.returns-clause-bytes
 returns-clause-bytes g c file is =
     let v = c.pieces.bytes in
     read_most file v.items 1048577 (c.pieces.invariant.front file is) c.pieces.invariant.within
     (omega (arith, c.len.ensures, v.ok.0, c.pieces-test.false))
+
+pub returns-clause-present : goal.returns-clause-present
+returns-clause-present g c lacks =
+    let v = c.pieces.bytes in
+    c.pieces.invariant.present
+    (omega (arith, c.len.ensures, v.ok.0, c.pieces-test.false)) lacks
