@@ -125,7 +125,8 @@ fn read_steps(alloc: Global, lines: &mut Lines, owed: u64) -> Result<Seq<Step>, 
         ≤ lines.old.taken + length lines.old.rest.now) }
     ensures refused { IfErr result (StopsInSteps owed lines.old.taken lines.old.rest.now) }
 {
-    let mut steps = Seq::new(alloc);
+    // A count makes room for a few steps; for more there is room as they come.
+    let mut steps = Seq::from_vec(Vec::with_capacity(alloc, owed.min(16) as usize)?);
     'steps: for _ in 0..owed {
         let line = lines.next()?;
         steps.push(step_at(alloc, line, lines.taken)?)?;

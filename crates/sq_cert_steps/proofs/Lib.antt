@@ -8,3 +8,4 @@ pub mod Inverse
 pub mod Writables
 pub mod Bounds
 pub mod Answered
+pub mod Beginnings

@@ -1,5 +1,6 @@
 -- The words of steps.
-use Rattle.std.specs.Prelude.{ℕ, List, [], ◌∷◌, find, Option, codes, bytes_eq}
+use Rattle.std.specs.Prelude.{ℕ, ◌==◌, List, [], ◌∷◌, filter, find, slice_index, Option, codes}
+use Rattle.std.specs.Prelude.{bytes_eq}
 use Rattle.sq_step.specs.declared.step.Step.{Step}
 use Rattle.sq_step.specs.declared.step.Step.TheVariants as step
 use Rattle.sq_cert_steps.specs.declared.name.StepName.{StepName}
@@ -135,6 +136,10 @@ step_names =
     name.O11 ∷ name.O12 ∷ name.Tind ∷ name.X ∷ name.Xu ∷ name.Fresh ∷ name.Euf ∷ name.Coll ∷
     name.Eass ∷ name.Erefl ∷ name.Esel ∷ name.Efa ∷ name.Eatom ∷ name.Efre ∷ name.Ecase ∷
     name.Erep ∷ name.Eded ∷ name.Eind ∷ name.Eprf ∷ name.Euse ∷ []
+
+-- the names whose words begin with this letter
+abbrev pub names_beginning : ℕ → List StepName
+names_beginning letter = filter (λ n. slice_index (name_text n) 0 == letter) step_names
 
 -- the step whose word is written so
 unfoldable pub name_written : List ℕ → Option StepName

@@ -1,5 +1,5 @@
 // The words of steps.
-ghost use Rattle.std.specs.Prelude.{◌≡◌};
+ghost use Rattle.std.specs.Prelude.{◌≡◌, bytes_eq, find};
 ghost use Rattle.sq_cert_steps.specs.Names as spec;
 
 /// The word of a step. It tells which arguments follow.
@@ -65,53 +65,12 @@ pub enum StepName {
     Euse,
 }
 
-static NAMES: [StepName; 58] = [
-    StepName::Hyp,
-    StepName::True,
-    StepName::Absurd,
-    StepName::Impi,
-    StepName::Noti,
-    StepName::Alli,
-    StepName::Andi,
-    StepName::Orl,
-    StepName::Orr,
+// The names whose words begin with an e, and with an o.
+static WITH_E: [StepName; 16] = [
     StepName::Exi,
-    StepName::Ande,
-    StepName::Ore,
-    StepName::Impe,
-    StepName::Note,
-    StepName::Alle,
     StepName::Exe,
-    StepName::Cut,
     StepName::Em,
-    StepName::Drop,
-    StepName::UseStmt,
-    StepName::Proj,
-    StepName::Trace,
-    StepName::Refl,
-    StepName::Sym,
-    StepName::Trans,
-    StepName::Arg,
-    StepName::Rew,
-    StepName::Fact,
-    StepName::O1,
-    StepName::O2,
-    StepName::O3,
-    StepName::O4,
-    StepName::O5,
-    StepName::O6,
-    StepName::O7,
-    StepName::O8,
-    StepName::O9,
-    StepName::O10,
-    StepName::O11,
-    StepName::O12,
-    StepName::Tind,
-    StepName::X,
-    StepName::Xu,
-    StepName::Fresh,
     StepName::Euf,
-    StepName::Coll,
     StepName::Eass,
     StepName::Erefl,
     StepName::Esel,
@@ -124,6 +83,24 @@ static NAMES: [StepName; 58] = [
     StepName::Eind,
     StepName::Eprf,
     StepName::Euse,
+];
+
+static WITH_O: [StepName; 15] = [
+    StepName::Orl,
+    StepName::Orr,
+    StepName::Ore,
+    StepName::O1,
+    StepName::O2,
+    StepName::O3,
+    StepName::O4,
+    StepName::O5,
+    StepName::O6,
+    StepName::O7,
+    StepName::O8,
+    StepName::O9,
+    StepName::O10,
+    StepName::O11,
+    StepName::O12,
 ];
 
 impl StepName {
@@ -193,14 +170,58 @@ impl StepName {
         }
     }
 
+    /// The names whose words begin with this letter.
+    fn beginning(letter: u8) -> &'static [StepName]
+        ensures { result.now ≡ spec.names_beginning letter }
+    {
+        match letter {
+            b'a' => &[
+                StepName::Absurd,
+                StepName::Alli,
+                StepName::Andi,
+                StepName::Ande,
+                StepName::Alle,
+                StepName::Arg,
+            ],
+            b'c' => &[StepName::Cut, StepName::Coll],
+            b'd' => &[StepName::Drop],
+            b'e' => &WITH_E,
+            b'f' => &[StepName::Fact, StepName::Fresh],
+            b'h' => &[StepName::Hyp],
+            b'i' => &[StepName::Impi, StepName::Impe],
+            b'n' => &[StepName::Noti, StepName::Note],
+            b'o' => &WITH_O,
+            b'p' => &[StepName::Proj],
+            b'r' => &[StepName::Refl, StepName::Rew],
+            b's' => &[StepName::Sym],
+            b't' => &[
+                StepName::True,
+                StepName::Trace,
+                StepName::Trans,
+                StepName::Tind,
+            ],
+            b'u' => &[StepName::UseStmt],
+            b'x' => &[StepName::X, StepName::Xu],
+            _ => &[],
+        }
+    }
+
     /// The step whose word is written so.
-    #[tactic(auto, unfolding(crate::specs::Names::name_written))]
     pub fn of(text: &[u8]) -> Option<StepName>
         ensures { result ≡ spec.name_written text.now }
     {
-        NAMES
-            .iter()
-            .copied()
-            .find(|name| name.text().as_bytes() == text)
+        match text.split_first() {
+            Some((letter, _)) => written_so(StepName::beginning(*letter), text),
+            None => None,
+        }
     }
+}
+
+fn written_so(names: &[StepName], text: &[u8]) -> Option<StepName>
+    ensures { result ≡ find (λ n. bytes_eq (spec.name_text n) text.now) names.now }
+{
+    names
+        .iter()
+        .copied()
+        .find(|name| name.text().as_bytes() == text)
 }

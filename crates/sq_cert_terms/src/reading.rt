@@ -1,5 +1,5 @@
 // Terms, timestamps and indices at the front of some words.
-ghost use Rattle.std.specs.Prelude.{◌≡◌, [], map};
+ghost use Rattle.std.specs.Prelude.{◌≡◌, [], map, min};
 ghost use Rattle.sq_term.specs.View.{ts_tree, term_tree};
 ghost use Rattle.sq_cert_words.specs.Reads.{Reads, left, followed, head_word};
 ghost use Rattle.sq_cert_terms.specs.Reading as spec;
@@ -9,6 +9,14 @@ use sq_cert_words::{CertFault, Plain, Word, Words};
 use sq_term::{Idx, Macro, Term, Ts};
 use sqlite_items::{Boxed, Items};
 use std::alloc::Global;
+
+// How much room a list of so many items begins with. A few have just theirs; more than that are
+// believed only as they come.
+fn first_room(count: u32) -> usize
+    ensures { result ≡ min count 4 }
+{
+    count.min(4) as usize
+}
 
 // ---- indices
 
@@ -39,7 +47,7 @@ fn indices(alloc: Global, words: &mut Words, count: u32, room: usize) -> Result<
     if room == 0 && count > 0 {
         return Err(CertFault::BadStep);
     }
-    let mut indices = Seq::new(alloc);
+    let mut indices = Seq::from_vec(Vec::with_capacity(alloc, first_room(count))?);
     let mut remaining = count;
     'indices: while remaining > 0 {
         indices.push(index(words)?)?;
@@ -97,7 +105,7 @@ fn terms(
     ensures { Reads (map term_tree) result (left words.new)
         (spec.terms_on (spec.term depth) [] count (left words.old)) }
 {
-    let mut terms = Items::new(alloc);
+    let mut terms = Items::from_vec(Vec::with_capacity(alloc, first_room(count))?);
     let mut remaining = count;
     'terms: while remaining > 0 {
         terms.push(term(alloc, words, depth)?)?;

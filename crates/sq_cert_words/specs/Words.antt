@@ -1,6 +1,6 @@
 -- The words of terms, timestamps and indices, and how each is told from the others.
 use Rattle.std.specs.Prelude.{◌<◌, ◌^◌, ℕ, if◌then◌else◌, ◌==◌, nat_eq, List, [], ◌∷◌, drop}
-use Rattle.std.specs.Prelude.{find, slice_index, Option, None, option_map, codes, bytes_eq}
+use Rattle.std.specs.Prelude.{filter, find, slice_index, Option, None, option_map, codes, bytes_eq}
 use Rattle.std.specs.Char.{is_ascii_digit}
 use Rattle.std.specs.List.{starts_with}
 use Rattle.sq_base.specs.declared.sort.Sort.TheVariants as sort
@@ -37,6 +37,10 @@ plain_words =
     plain.Diff ∷ plain.Le ∷ plain.TsEq ∷ plain.IdxEq
     ∷ plain.Happens ∷ plain.ForallIndex ∷ plain.ForallTimestamp ∷ plain.ExistsIndex ∷
     plain.ExistsTimestamp ∷ []
+
+-- the words without numbers that begin with this letter
+abbrev pub plain_beginning : ℕ → List Plain
+plain_beginning letter = filter (λ p. slice_index (plain_text p) 0 == letter) plain_words
 
 -- the word without numbers that is written so
 unfoldable pub plain_of : List ℕ → Option Plain

@@ -1,5 +1,5 @@
 // The words of terms, timestamps and indices.
-ghost use Rattle.std.specs.Prelude.{◌≡◌, ◌∷◌, slice_index};
+ghost use Rattle.std.specs.Prelude.{◌≡◌, ◌∷◌, bytes_eq, find, slice_index};
 ghost use Rattle.sq_cert_words.specs.Words as spec;
 
 use crate::numbers::{last_number, three_numbers, two_numbers};
@@ -24,25 +24,6 @@ pub enum Plain {
     ExistsIndex,
     ExistsTimestamp,
 }
-
-static PLAIN: [Plain; 16] = [
-    Plain::Init,
-    Plain::Pred,
-    Plain::Input,
-    Plain::Output,
-    Plain::Cond,
-    Plain::Exec,
-    Plain::Frame,
-    Plain::Diff,
-    Plain::Le,
-    Plain::TsEq,
-    Plain::IdxEq,
-    Plain::Happens,
-    Plain::ForallIndex,
-    Plain::ForallTimestamp,
-    Plain::ExistsIndex,
-    Plain::ExistsTimestamp,
-];
 
 impl Plain {
     /// How the word is written.
@@ -69,15 +50,44 @@ impl Plain {
         }
     }
 
-    #[tactic(auto, unfolding(crate::specs::Words::plain_of))]
+    /// The words that begin with this letter.
+    fn beginning(letter: u8) -> &'static [Plain]
+        ensures { result.now ≡ spec.plain_beginning letter }
+    {
+        match letter {
+            b'A' => &[Plain::ForallIndex, Plain::ForallTimestamp],
+            b'E' => &[Plain::ExistsIndex, Plain::ExistsTimestamp],
+            b'c' => &[Plain::Cond],
+            b'd' => &[Plain::Diff],
+            b'e' => &[Plain::Exec],
+            b'f' => &[Plain::Frame],
+            b'h' => &[Plain::Happens],
+            b'i' => &[Plain::Init, Plain::Input, Plain::IdxEq],
+            b'l' => &[Plain::Le],
+            b'o' => &[Plain::Output],
+            b'p' => &[Plain::Pred],
+            b't' => &[Plain::TsEq],
+            _ => &[],
+        }
+    }
+
     fn of(text: &[u8]) -> Option<Plain>
         ensures { result ≡ spec.plain_of text.now }
     {
-        PLAIN
-            .iter()
-            .copied()
-            .find(|word| word.text().as_bytes() == text)
+        match text.split_first() {
+            Some((letter, _)) => written_so(Plain::beginning(*letter), text),
+            None => None,
+        }
     }
+}
+
+fn written_so(words: &[Plain], text: &[u8]) -> Option<Plain>
+    ensures { result ≡ find (λ p. bytes_eq (spec.plain_text p) text.now) words.now }
+{
+    words
+        .iter()
+        .copied()
+        .find(|word| word.text().as_bytes() == text)
 }
 
 /// A word of a term, a timestamp or an index. An action and a name are followed by so many indices,
