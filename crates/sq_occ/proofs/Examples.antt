@@ -19,13 +19,13 @@ use Rattle.sq_occ.specs.Facts.{occurs}
 use Rattle.sq_occ.specs.Sizes.{list_nodes}
 
 -- one hash behind the built-in functions
-abbrev funs : List FunDecl
+abbrev pub funs : List FunDecl
 funs = replicate 14 no_function ++ record { idx = 0; args = 2; result = Message; role = Hash } ∷ []
 
-abbrev hashed : TermTree → TermTree → TermTree
+abbrev pub hashed : TermTree → TermTree → TermTree
 hashed m k = fun (declared 0) [] (cons m (cons k nil))
 
-abbrev step : ℕ → TermTree → TermTree → ActionTree
+abbrev pub step : ℕ → TermTree → TermTree → ActionTree
 step arity cond output =
     record { arity = arity; parent = None; path = []; cond = cond; output = output }
 

@@ -14,4 +14,16 @@ pub mod Origins
 pub mod Inverses
 pub mod ClosedLists
 pub mod InScope
+pub mod Growth
+pub mod Keyed
+pub mod Depths
+pub mod Scanned
+pub mod BodyPlaces
+pub mod Finding
+pub mod Walking
+pub mod Scanning
+pub mod Found
+pub mod Called
+pub mod Covered
 mod Examples
+mod PlaceExamples

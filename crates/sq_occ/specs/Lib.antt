@@ -11,3 +11,5 @@ pub mod Atoms
 pub mod ClosedLists
 pub mod Scope
 pub mod Reads
+-- calls
+pub mod Calls
