@@ -8,6 +8,7 @@ mod pool;
 mod reading;
 mod resolution;
 mod rows;
+mod sentences;
 mod substitution;
 
 use fault::Fault;
@@ -42,6 +43,7 @@ fn turned(alloc: Global, words: &[String]) -> Result<u32, Fault> {
         "substitution" => substitution::turned(alloc, word.as_str(), turns),
         "lexing" => reading::lexed(alloc, word.as_str(), turns),
         "parsing" => reading::parsed(alloc, word.as_str(), turns),
+        "sentences" => sentences::read(alloc, word.as_str(), turns),
         "resolution" => resolution::turned(alloc, word.as_str(), turns),
         "rows" => rows::turned(alloc, word.as_str(), turns),
         "pool" => pool::turned(alloc, word.as_str(), turns),

@@ -34,7 +34,8 @@ pub fn parsed(alloc: Global, word: &str, kib: u32) -> Result<u32, Fault> {
     }
 }
 
-fn sentences(alloc: Global, source: &[u8]) -> Result<Seq<Sentence>, Fault> {
+/// The sentences of a source.
+pub fn sentences(alloc: Global, source: &[u8]) -> Result<Seq<Sentence>, Fault> {
     if source.len() > MOST_BYTES {
         return Err(Fault::Limit);
     }

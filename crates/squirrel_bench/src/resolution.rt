@@ -30,6 +30,7 @@ fn declared(alloc: Global, count: u32) -> Result<u32, Fault> {
 fn resolved(alloc: Global, table: &Table, env: &Env, count: u32) -> Result<u32, Fault> {
     let scope = Scope {
         system: 0,
+        given: Seq::new(alloc),
         vars: Seq::new(alloc),
         schemas: Seq::new(alloc),
     };

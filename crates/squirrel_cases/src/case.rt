@@ -9,6 +9,12 @@ pub enum Kind {
     Formula,
     /// How many tokens that formula has.
     FormulaLength,
+    /// A sentence is read.
+    Sentence,
+    /// Sentences are read.
+    Sentences,
+    /// Sentences without their last token are read.
+    Shortened,
     /// The program is run over files and a sink in memory.
     Run,
     /// Lines of steps are read.
@@ -28,6 +34,9 @@ impl Kind {
             "tokens" => Some(Kind::Tokens),
             "formula" => Some(Kind::Formula),
             "formula-length" => Some(Kind::FormulaLength),
+            "sentence" => Some(Kind::Sentence),
+            "sentences" => Some(Kind::Sentences),
+            "shortened" => Some(Kind::Shortened),
             "run" => Some(Kind::Run),
             "steps" => Some(Kind::Steps),
             "steps-kept" => Some(Kind::StepsKept),

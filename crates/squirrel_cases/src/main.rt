@@ -9,6 +9,7 @@ mod fault;
 mod outcome;
 mod plain;
 mod program;
+mod sentences;
 
 use case::Case;
 use case_file::cases_of;

@@ -3,6 +3,7 @@ use crate::case::Kind;
 use crate::certificates::{certificate, certificate_fronts, steps, steps_kept};
 use crate::plain::without_wrappers;
 use crate::program::program;
+use crate::sentences::{Extent, sentence, sentences};
 use sq_ast::Formula;
 use sq_base::NoMemory;
 use sq_lex::lex;
@@ -23,6 +24,9 @@ pub fn outcome(alloc: Global, kind: Kind, given: &str) -> Result<String, AllocEr
         Kind::Tokens => tokens(alloc, given),
         Kind::Formula => formula(alloc, given, Shown::Tree),
         Kind::FormulaLength => formula(alloc, given, Shown::Length),
+        Kind::Sentence => sentence(alloc, given),
+        Kind::Sentences => sentences(alloc, given, Extent::Whole),
+        Kind::Shortened => sentences(alloc, given, Extent::WithoutLast),
         Kind::Run => program(alloc, given).map_err(|_| AllocError),
         Kind::Steps => steps(alloc, given),
         Kind::StepsKept => steps_kept(alloc, given),
