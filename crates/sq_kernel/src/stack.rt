@@ -1,5 +1,5 @@
 // Stacks of sequents. The first sequent is the one that the next step acts on.
-ghost use Rattle.std.specs.Prelude.{◌≡◌, ◌<◌, ◌++◌, Err, OnOk, OnErr, MatchResult, length, drop};
+ghost use Rattle.std.specs.Prelude.{◌≡◌, ◌<◌, ◌++◌, Err, OnOk, OnErr, MatchResult, length};
 ghost use Rattle.std.specs.Prelude.{reverse};
 ghost use Rattle.sq_base.specs.Gives.{Gives};
 ghost use Rattle.sq_system.specs.Environments.{env_tree};
@@ -9,11 +9,11 @@ ghost use Rattle.sq_kernel.specs.Closing.{site};
 ghost use Rattle.sq_kernel.specs.Verdicts.{calculus, advanced};
 
 use crate::fault::StepFault;
+use crate::lists::replace_first;
 use sq_base::{NoMemory, Seq};
 use sq_rules_logic::premises;
 use sq_sequent::{Env, RuleFault, Sequent, Site, Step};
 use std::alloc::Global;
-use std::mem;
 
 fn premises_of(
     alloc: Global,
@@ -52,28 +52,6 @@ pub fn advance(
             },
             Err(fault) => Err(StepFault::Rule(fault)),
         },
-    }
-}
-
-fn replace_first(stack: &mut Seq<Sequent>, premises: Seq<Sequent>) -> Result<(), NoMemory>
-    requires { 0 < length stack.old }
-    ensures ok { OnOk result (stack.new ≡ premises ++ drop 1 stack.old) }
-    ensures err { OnErr result (stack.new ≡ stack.old) }
-{
-    let alloc = stack.allocator();
-    let mut rest = mem::replace(stack, Seq::new(alloc)).into_vec();
-    let mut premises = premises.into_vec();
-    let count = premises.len();
-    match premises.append(&mut rest) {
-        Ok(()) => {
-            premises.remove(count);
-            *stack = Seq::from_vec(premises);
-            Ok(())
-        }
-        Err(_) => {
-            *stack = Seq::from_vec(rest);
-            Err(NoMemory)
-        }
     }
 }
 
