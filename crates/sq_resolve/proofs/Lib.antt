@@ -8,3 +8,4 @@ pub mod NodePlaces
 pub mod Further
 pub mod Meant
 pub mod Sorted
+pub mod Among

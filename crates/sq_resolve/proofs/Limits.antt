@@ -63,15 +63,18 @@ right_passes x y p = λ n. let small : size y ≤ most_formula_nodes =
 module _ (c : ℕ) (x y z : TermTree) where
   pub test_passes : Passes (size x) (depth x)
       → Passes (size (t.find c x y z)) (depth (t.find c x y z))
-  test_passes p = λ n. let small : size x ≤ most_formula_nodes = omega (arith, n) in let deep : most_formula_depth < depth x =
+  test_passes p = λ n. let small : size x ≤ most_formula_nodes = omega (arith, n) in
+      let deep : most_formula_depth < depth x =
       p small in omega (arith, deep)
 
   pub then_passes : Passes (size y) (depth y)
       → Passes (size (t.find c x y z)) (depth (t.find c x y z))
-  then_passes p = λ n. let small : size y ≤ most_formula_nodes = omega (arith, n) in let deep : most_formula_depth < depth y =
+  then_passes p = λ n. let small : size y ≤ most_formula_nodes = omega (arith, n) in
+      let deep : most_formula_depth < depth y =
       p small in omega (arith, deep)
 
   pub other_passes : Passes (size z) (depth z)
       → Passes (size (t.find c x y z)) (depth (t.find c x y z))
-  other_passes p = λ n. let small : size z ≤ most_formula_nodes = omega (arith, n) in let deep : most_formula_depth < depth z =
+  other_passes p = λ n. let small : size z ≤ most_formula_nodes = omega (arith, n) in
+      let deep : most_formula_depth < depth z =
       p small in omega (arith, deep)

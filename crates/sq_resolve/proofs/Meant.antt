@@ -1,5 +1,6 @@
 -- What an identifier means is there in a signature that fits its scope.
-use Rattle.std.proofs.Common.{◌≡◌, ◌<◌, ◌+◌, ◌-◌, ◌⊎◌, inl, inr, ℕ, zero, suc, Bool, true, false, cond}
+use Rattle.std.proofs.Common.{◌≡◌, ◌<◌, ◌+◌, ◌-◌, ◌⊎◌, inl, inr, ℕ, zero, suc, Bool, true, false}
+use Rattle.std.proofs.Common.{cond, if◌then◌else◌}
 use Rattle.std.proofs.Common.{List, [], ◌∷◌, ◌++◌, length, map, reverse, Option, Some, None}
 use Rattle.std.proofs.Common.{option_map, slice_get, refl, sym, ap, ◌∙◌, subst, arith, ◌==◌}
 use Rattle.std.specs.Str.{bytes_eq}
@@ -23,7 +24,8 @@ use Rattle.sq_resolve.specs.declared.scope.Given.TheVariants as given
 use Rattle.sq_resolve.specs.declared.head.Head.{Head}
 use Rattle.sq_resolve.specs.declared.head.Head.TheVariants as head
 use Rattle.sq_resolve.specs.Fitting.{binder_sorts, filling, Fits}
-use Rattle.sq_resolve.specs.Scopes.{Variable, Context, last_from, last_of, last_name_from, last_name}
+use Rattle.sq_resolve.specs.Scopes.{Variable, Context, last_from, last_of, last_name_from}
+use Rattle.sq_resolve.specs.Scopes.{last_name}
 use Rattle.sq_resolve.specs.Scopes.{last_given, first_some, bound_head, given_head, free_head}
 use Rattle.sq_resolve.specs.Scopes.{schema_head, symbol_head, action_head, meaning}
 use Rattle.sq_resolve.proofs.Further.{place_further}
@@ -60,9 +62,9 @@ last_there : (k : ℕ) (best : Option (ℕ × Sort)) (x : List ℕ) (vs : List V
 last_there k best x [] r e = inl e
 last_there k best x (v ∷ vs) r e =
     by (bytes_eq x v.0)
-    (last_there (k + 1) (cond (bytes_eq x v.0) (Some (k, v.1)) best) x vs r e)
+    (last_there (k + 1) (if bytes_eq x v.0 then Some (k, v.1) else best) x vs r e)
   where
-    by : (b : Bool) → (cond b (Some (k, v.1)) best ≡ Some r) ⊎ IsAt (k + 1) vs r
+    by : (b : Bool) → ((if b then Some (k, v.1) else best) ≡ Some r) ⊎ IsAt (k + 1) vs r
         → (best ≡ Some r) ⊎ IsAt k (v ∷ vs) r
     by true (inl h) =
         let same : (k, v.1) ≡ r = cc in
@@ -97,9 +99,9 @@ name_there : (k : ℕ) (best : Option ℕ) (x : List ℕ) (ys : List (List ℕ))
     → last_name_from k best x ys ≡ Some r → (best ≡ Some r) ⊎ (r < k + length ys)
 name_there k best x [] r e = inl e
 name_there k best x (y ∷ ys) r e =
-    by (bytes_eq x y) (name_there (k + 1) (cond (bytes_eq x y) (Some k) best) x ys r e)
+    by (bytes_eq x y) (name_there (k + 1) (if bytes_eq x y then Some k else best) x ys r e)
   where
-    by : (b : Bool) → (cond b (Some k) best ≡ Some r) ⊎ (r < k + 1 + length ys)
+    by : (b : Bool) → ((if b then Some k else best) ≡ Some r) ⊎ (r < k + 1 + length ys)
         → (best ≡ Some r) ⊎ (r < k + length (y ∷ ys))
     by true (inl h) = let same : k ≡ r = cc in inr (omega arith)
     by false (inl h) = inl h
@@ -120,9 +122,9 @@ given_there : (best : Option Given) (x : List ℕ) (gs : List (List ℕ × Given
     → last_given best x gs ≡ Some m → (best ≡ Some m) ⊎ Holds gs m
 given_there best x [] m e = inl e
 given_there best x (g ∷ gs) m e =
-    by (bytes_eq x g.0) (given_there (cond (bytes_eq x g.0) (Some g.1) best) x gs m e)
+    by (bytes_eq x g.0) (given_there (if bytes_eq x g.0 then Some g.1 else best) x gs m e)
   where
-    by : (b : Bool) → (cond b (Some g.1) best ≡ Some m) ⊎ Holds gs m
+    by : (b : Bool) → ((if b then Some g.1 else best) ≡ Some m) ⊎ Holds gs m
         → (best ≡ Some m) ⊎ Holds (g ∷ gs) m
     by true (inl h) =
         let same : g.1 ≡ m = cc in
@@ -270,7 +272,7 @@ module _ (c : Context) (g : Signature) (values : List TermTree) (fits : Fits c g
   symbol_has ss x (Some (at, symbol.Action s a)) h i e = by (s == c.system) refl e
     where
       by : (b : Bool) → (s == c.system) ≡ b
-          → cond b (action_head a (slice_get c.systems s)) None ≡ Some h → Has g values ss h
+          → (if b then action_head a (slice_get c.systems s) else None) ≡ Some h → Has g values ss h
       by true j f =
           let own : s ≡ c.system = grind (arith, nat_tests) in
           action_has ss a (slice_get c.systems s) h (ap (slice_get c.systems) (sym own)) f

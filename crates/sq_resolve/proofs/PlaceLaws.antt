@@ -1,6 +1,7 @@
 -- The walk refuses a tree with the fault of its first place, in preorder, that has one.
 use Rattle.std.proofs.Common.{◌≡◌, ℕ, zero, suc, ◌+◌, List, [], ◌∷◌, ◌++◌, Option, Some, None, Bool}
-use Rattle.std.proofs.Common.{true, false, cond, length, is_some, refl, sym, ap, ◌∙◌, arith}
+use Rattle.std.proofs.Common.{true, false, if◌then◌else◌, length, is_some, refl, sym, ap, ◌∙◌}
+use Rattle.std.proofs.Common.{arith}
 use Rattle.std.specs.Prelude.{Ok, Err, ◌==◌}
 use Rattle.std.proofs.lemmas.Bool.Decides.{nat_tests}
 use Rattle.sq_base.specs.declared.sort.Sort.{Sort}
@@ -68,18 +69,18 @@ fault_expect : {A : Type 0} (w o : Sort) (m : Found A)
     → fault_of (expect w o m) ≡ first_some (clash w o) (fault_of m)
 fault_expect {A} w o m = by (is_same_sort w o)
   where
-    by : (b : Bool) → fault_of (cond b m (Err (SortClash w o)))
-        ≡ first_some (cond b None (Some (SortClash w o))) (fault_of m)
+    by : (b : Bool) → fault_of (if b then m else Err (SortClash w o))
+        ≡ first_some (if b then None else Some (SortClash w o)) (fault_of m)
     by true = refl
     by false = refl
 
 fault_binders : {A : Type 0} (gs : List Group) (m : Found A)
     → fault_of (with_binders gs m)
-    ≡ first_some (cond (bind_no_message gs) None (Some MessageQuantifier)) (fault_of m)
+    ≡ first_some (if bind_no_message gs then None else Some MessageQuantifier) (fault_of m)
 fault_binders {A} gs m = by (bind_no_message gs)
   where
-    by : (b : Bool) → fault_of (cond b m (Err MessageQuantifier))
-        ≡ first_some (cond b None (Some MessageQuantifier)) (fault_of m)
+    by : (b : Bool) → fault_of (if b then m else Err MessageQuantifier)
+        ≡ first_some (if b then None else Some MessageQuantifier) (fault_of m)
     by true = refl
     by false = refl
 
@@ -88,9 +89,9 @@ fault_judged : {A : Type 0} (reading : Head → Option A) (w : Sort) (x : List �
 fault_judged {A} reading w x n h = by (head_arity h == n) (reading h) refl
   where
     by : (b : Bool) (o : Option A) → reading h ≡ o
-        → fault_of (chosen reading w (cond b (Ok h) (Err (Arity x (head_arity h) n))))
-        ≡ cond b (cond (is_some (reading h)) None (Some (SortClash w (head_sort h))))
-        (Some (Arity x (head_arity h) n))
+        → fault_of (chosen reading w (if b then Ok h else Err (Arity x (head_arity h) n)))
+        ≡ (if b then if is_some (reading h) then None else (Some (SortClash w (head_sort h)))
+        else Some (Arity x (head_arity h) n))
     by true (Some a) e = rw e refl
     by true None e = rw e refl
     by false o e = refl
@@ -167,10 +168,10 @@ module _ (c : Context) where
   judged_places {A} reading w x n h f rest go = by (head_arity h == n) refl (reading h) refl
     where
       by : (b : Bool) → (head_arity h == n) ≡ b → (o : Option A) → reading h ≡ o
-          → continued f (chosen reading w (cond b (Ok h) (Err (Arity x (head_arity h) n))))
+          → continued f (chosen reading w (if b then Ok h else Err (Arity x (head_arity h) n)))
           ≡ first_some
-          (cond b (cond (is_some (reading h)) None (Some (SortClash w (head_sort h))))
-          (Some (Arity x (head_arity h) n))) rest
+          (if b then if is_some (reading h) then None else (Some (SortClash w (head_sort h)))
+          else Some (Arity x (head_arity h) n)) rest
       by true e (Some a) r = rw r (go a r e)
       by true e None r = rw r refl
       by false e o r = refl
@@ -306,14 +307,14 @@ module _ (c : Context) where
       ≡ first_fault c (argument_places c bs (index_count (Some h)) xs)
   value_rest w (head.Schema k s) v xs bs go e b = by (is_same_sort w s) e
     where
-      by : (s : Bool) → cond s (Some (schema_variable k)) None ≡ Some v
+      by : (s : Bool) → (if s then Some (schema_variable k) else None) ≡ Some v
           → fault_of (with_arguments (Ok v) (indices_of c bs xs) (λ i. arguments_of c bs i xs))
           ≡ first_fault c (argument_places c bs 0 xs)
       by true f = let is : v ≡ schema_variable k = cc in rw (is, no_arguments xs b) refl
       by false f = let n : ⊥ = cc in absurd n
   value_rest w (head.Name n k) v xs bs go e b = by (is_same_sort w Message) e
     where
-      by : (s : Bool) → cond s (Some (name_symbol n)) None ≡ Some v
+      by : (s : Bool) → (if s then Some (name_symbol n) else None) ≡ Some v
           → fault_of (with_arguments (Ok v) (indices_of c bs xs) (λ i. arguments_of c bs i xs))
           ≡ first_fault c (argument_places c bs k xs)
       by true f = let is : v ≡ name_symbol n =
@@ -322,7 +323,7 @@ module _ (c : Context) where
       by false f = let n : ⊥ = cc in absurd n
   value_rest w (head.Function f i n s) v xs bs go e b = by (is_same_sort w s) e
     where
-      by : (r : Bool) → cond r (Some (function (kind_of f) i)) None ≡ Some v
+      by : (r : Bool) → (if r then Some (function (kind_of f) i) else None) ≡ Some v
           → fault_of (with_arguments (Ok v) (indices_of c bs xs) (λ i. arguments_of c bs i xs))
           ≡ first_fault c (argument_places c bs i xs)
       by true g =
@@ -399,11 +400,11 @@ module _ (c : Context) where
         fault_expect w Boolean (with_binders gs m)
         ∙ (ap (first_some (clash w Boolean)) (fault_binders gs m)
         ∙ (ap (λ x. first_some (clash w Boolean)
-        (first_some (cond (bind_no_message gs) None (Some MessageQuantifier)) x))
+        (first_some (if bind_no_message gs then None else Some MessageQuantifier) x))
         (fault_mapped (quantify q (variables gs)) (term_of c (bs ++ variables gs) Boolean a)
         ∙ term_places (bs ++ variables gs) Boolean a refl)
         ∙ sym (first_assoc (clash w Boolean)
-        (cond (bind_no_message gs) None (Some MessageQuantifier))
+        (if bind_no_message gs then None else Some MessageQuantifier)
         (first_fault c (places c (bs ++ variables gs) Boolean a)))))
     term_places bs w (binary Implies a b) s =
         expect_places w Boolean _ (places c bs Boolean a ++ places c bs Boolean b)

@@ -1,6 +1,6 @@
 -- What a tree resolves to is well-sorted in a signature that fits its scope, with terms in the
 -- places of its schema variables.
-use Rattle.std.proofs.Common.{◌≡◌, ◌<◌, ◌+◌, ◌-◌, ℕ, zero, suc, Bool, true, false, cond, ◌&&◌, ◌==◌}
+use Rattle.std.proofs.Common.{◌≡◌, ◌<◌, ◌+◌, ◌-◌, ℕ, zero, suc, Bool, true, false, ◌&&◌, ◌==◌}
 use Rattle.std.proofs.Common.{nat_le, List, [], ◌∷◌, ◌++◌, length, map, reverse, Option, Some, None}
 use Rattle.std.proofs.Common.{slice_get, unwrap_or, refl, sym, ap, ◌∙◌, subst, arith}
 use Rattle.std.specs.Prelude.{Ok, replicate, if◌then◌else◌}
@@ -358,7 +358,8 @@ module _ (c : Context) (g : Signature) (values : List TermTree) (fits : Fits c g
     value_sorted s n (head.Schema k r) v R S u e there arity onR onS is =
         by (is_same_sort s r) refl e
       where
-        by : (b : Bool) → is_same_sort s r ≡ b → cond b (Some (schema_variable k)) None ≡ Some v
+        by : (b : Bool) → is_same_sort s r ≡ b → (if b then Some (schema_variable k) else None)
+            ≡ Some v
             → IsSorted s u
         by true d f =
             let same : v ≡ schema_variable k = cc in
@@ -371,7 +372,7 @@ module _ (c : Context) (g : Signature) (values : List TermTree) (fits : Fits c g
         by (is_same_sort s Message) refl e
       where
         by : (b : Bool) → is_same_sort s Message ≡ b
-            → cond b (Some (name_symbol a)) None ≡ Some v → IsSorted s u
+            → (if b then Some (name_symbol a) else None) ≡ Some v → IsSorted s u
         by true d f =
             let same : v ≡ name_symbol a = cc in
             let what = subst (λ (w : Value). HasArguments w R S u) same is in
@@ -386,7 +387,7 @@ module _ (c : Context) (g : Signature) (values : List TermTree) (fits : Fits c g
         by (is_same_sort s r) refl e
       where
         by : (b : Bool) → is_same_sort s r ≡ b
-            → cond b (Some (function (kind_of a) i)) None ≡ Some v → IsSorted s u
+            → (if b then Some (function (kind_of a) i) else None) ≡ Some v → IsSorted s u
         by true d f =
             let same : v ≡ function (kind_of a) i = cc in
             let what = subst (λ (w : Value). HasArguments w R S u) same is in
@@ -642,7 +643,8 @@ module _ (c : Context) (g : Signature) (values : List TermTree) (fits : Fits c g
           (
             ap suc rest.0.0,
             and_both (is_index g ts (put.index m e.0))
-                (are_indices g ts (map (put.index m) e.1.0.0)) (index_sorted bs m ts st a e.0 e.1.1.0)
+                (are_indices g ts (map (put.index m) e.1.0.0))
+                (index_sorted bs m ts st a e.0 e.1.1.0)
                 rest.0.1,
           ),
           rest.1,

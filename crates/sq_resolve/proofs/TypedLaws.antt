@@ -1,6 +1,6 @@
 -- A tree has exactly the term that the walk gives, so at most one.
 use Rattle.std.proofs.Common.{◌≡◌, ℕ, zero, suc, List, [], ◌∷◌, ◌++◌, Option, Some, None, Bool}
-use Rattle.std.proofs.Common.{true, false, cond, length, refl, sym, ap, ◌∙◌, arith}
+use Rattle.std.proofs.Common.{true, false, if◌then◌else◌, length, refl, sym, ap, ◌∙◌, arith}
 use Rattle.std.specs.Prelude.{Ok, Err, ◌==◌}
 use Rattle.std.proofs.lemmas.Bool.Decides.{nat_tests}
 use Rattle.sq_base.specs.declared.sort.Sort.{Sort}
@@ -70,7 +70,7 @@ expect_ok : {A : Type 0} (w o : Sort) (m : Found A) (a : A) → expect w o m ≡
     → (w ≡ o) × (m ≡ Ok a)
 expect_ok {A} w o m a e = by (is_same_sort w o) refl e
   where
-    by : (b : Bool) → is_same_sort w o ≡ b → cond b m (Err (SortClash w o)) ≡ Ok a
+    by : (b : Bool) → is_same_sort w o ≡ b → (if b then m else Err (SortClash w o)) ≡ Ok a
         → (w ≡ o) × (m ≡ Ok a)
     by true s e = (same_sort_is w o s, e)
     by false s e = let n : ⊥ = cc in absurd n
@@ -82,7 +82,7 @@ binders_ok : {A : Type 0} (gs : List Group) (m : Found A) (a : A) → with_binde
     → (bind_no_message gs ≡ true) × (m ≡ Ok a)
 binders_ok gs m a e = by (bind_no_message gs) refl e
   where
-    by : (b : Bool) → bind_no_message gs ≡ b → cond b m (Err MessageQuantifier) ≡ Ok a
+    by : (b : Bool) → bind_no_message gs ≡ b → (if b then m else Err MessageQuantifier) ≡ Ok a
         → (bind_no_message gs ≡ true) × (m ≡ Ok a)
     by true s e = (s, e)
     by false s e = let n : ⊥ = cc in absurd n
@@ -100,7 +100,7 @@ judged_ok reading w x n None a e = let n : ⊥ = cc in absurd n
 judged_ok {A} reading w x n (Some h) a e = by (head_arity h == n) refl (reading h) refl e
   where
     by : (b : Bool) → (head_arity h == n) ≡ b → (o : Option A) → reading h ≡ o
-        → chosen reading w (cond b (Ok h) (Err (Arity x (head_arity h) n))) ≡ Ok a
+        → chosen reading w (if b then Ok h else Err (Arity x (head_arity h) n)) ≡ Ok a
         → (g : Head) × ((Some h ≡ Some g) × (head_arity g ≡ n) × (reading g ≡ Some a))
     by true s (Some v) r e =
         let k : read_as w h (Some v) ≡ Ok a = ap (read_as w h) (sym r) ∙ e in

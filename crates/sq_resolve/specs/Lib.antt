@@ -7,5 +7,6 @@ pub mod Shapes
 pub mod Heads
 pub mod Places
 pub mod Stops
+pub mod Among
 pub mod Fitting
 pub mod Below

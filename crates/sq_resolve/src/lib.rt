@@ -8,6 +8,7 @@ mod judge;
 mod laws;
 mod leaves;
 mod names;
+mod places;
 mod resolving;
 mod row;
 mod scope;
@@ -27,6 +28,7 @@ pub use laws::{
     a_formula_has_a_place_at_each_node, a_refusal_is_that_of_the_first_place,
     a_tree_has_at_most_one_index_or_timestamp, a_tree_has_at_most_one_term,
 };
+pub use places::first_fault_among;
 pub use resolving::{resolve, resolve_arg, wanted_sort};
 pub use scope::{Given, Scope};
 pub use sized::{Built, SizedTerm};

@@ -8,7 +8,7 @@ use sq_ast::Binders;
 use sq_base::{NoMemory, Seq, Sort, Text};
 use std::alloc::Global;
 
-fn is_binder_sort(sort: Sort) -> bool
+pub fn is_binder_sort(sort: Sort) -> bool
     ensures { result ≡ pure.is_binder_sort sort }
 {
     match sort {
