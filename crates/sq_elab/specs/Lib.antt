@@ -1,0 +1,12 @@
+pub mod Inlined
+pub mod Ways
+pub mod Meanings
+pub mod Actions
+pub mod Events
+pub mod Faults
+pub mod FreshNames
+pub mod Declarations
+pub mod Outcome
+pub mod Walks
+pub mod Worked
+pub mod Laws
