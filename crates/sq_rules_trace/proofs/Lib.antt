@@ -1,0 +1,22 @@
+pub mod Order
+pub mod Truths
+pub mod OrderTrue
+pub mod Instances
+pub mod Exclusion
+pub mod Choosing
+pub mod Chosen
+pub mod ActionTrue
+pub mod Systems
+pub mod BodyMeaning
+pub mod MacroValues
+pub mod Sorted
+pub mod OtherTimes
+pub mod InductionSound
+pub mod FactsTrue
+pub mod RowSound
+pub mod Agree
+pub mod FactsStand
+pub mod FactsMayStand
+pub mod MacrosStand
+pub mod Formed
+mod Examples
