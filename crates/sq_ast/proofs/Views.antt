@@ -72,10 +72,12 @@ pub tree-True : formula_tree f.True ≡ constant True
 tree-True = ap formula_tree (sym f.rolls-True) ∙ fold-roll-Formula FormulaTree node Formula-F.True
 
 pub tree-False : formula_tree f.False ≡ constant False
-tree-False = ap formula_tree (sym f.rolls-False) ∙ fold-roll-Formula FormulaTree node Formula-F.False
+tree-False = ap formula_tree (sym f.rolls-False) ∙ fold-roll-Formula FormulaTree node
+    Formula-F.False
 
 pub tree-Empty : formula_tree f.Empty ≡ constant Empty
-tree-Empty = ap formula_tree (sym f.rolls-Empty) ∙ fold-roll-Formula FormulaTree node Formula-F.Empty
+tree-Empty = ap formula_tree (sym f.rolls-Empty) ∙ fold-roll-Formula FormulaTree node
+    Formula-F.Empty
 
 pub tree-Init : formula_tree f.Init ≡ constant Init
 tree-Init = ap formula_tree (sym f.rolls-Init) ∙ fold-roll-Formula FormulaTree node Formula-F.Init
@@ -149,4 +151,36 @@ tree-Apply_to n xs = ap formula_tree
     (sym (f.rolls-Apply n (Some xs))) ∙ fold-roll-Formula FormulaTree node
     (Formula-F.Apply n (Some xs))
 
-pub ruleset tree_rules = (tree-Forall, tree-Exists, tree-Implies, tree-Or, tree-And, tree-Equal, tree-NotEqual, tree-LessEqual, tree-Less, tree-Group, tree-Pair, tree-True, tree-False, tree-Empty, tree-Init, tree-If, tree-Find, tree-Diff, tree-Not, tree-Fst, tree-Snd, tree-OfBool, tree-Happens, tree-Pred, tree-Input, tree-Output, tree-Cond, tree-Exec, tree-Frame, tree-Apply, tree-Apply_to)
+pub ruleset tree_rules = (
+  tree-Forall,
+  tree-Exists,
+  tree-Implies,
+  tree-Or,
+  tree-And,
+  tree-Equal,
+  tree-NotEqual,
+  tree-LessEqual,
+  tree-Less,
+  tree-Group,
+  tree-Pair,
+  tree-True,
+  tree-False,
+  tree-Empty,
+  tree-Init,
+  tree-If,
+  tree-Find,
+  tree-Diff,
+  tree-Not,
+  tree-Fst,
+  tree-Snd,
+  tree-OfBool,
+  tree-Happens,
+  tree-Pred,
+  tree-Input,
+  tree-Output,
+  tree-Cond,
+  tree-Exec,
+  tree-Frame,
+  tree-Apply,
+  tree-Apply_to,
+)

@@ -1,5 +1,6 @@
 -- Goal lines: each is told from the others, and no newline stands in one.
-use Rattle.std.proofs.Common.{◌≡◌, ◌<◌, ◌^◌, ℕ, Bool, true, false, ◌&&◌, cond, List, [], ◌∷◌}
+use Rattle.std.proofs.Common.{◌≡◌, ◌<◌, ◌^◌, ℕ, Bool, true, false, ◌&&◌, if◌then◌else◌, List, []}
+use Rattle.std.proofs.Common.{◌∷◌}
 use Rattle.std.proofs.Common.{◌++◌, Option, Some, None, option_map, option_and_then, codes, decimal}
 use Rattle.std.proofs.Common.{bytes_eq, refl, sym, ap, ◌∙◌, subst, append-nil, arith}
 use Rattle.std.proofs.lemmas.Slice.Eq.{bytes_eq-Decides}
@@ -118,7 +119,7 @@ goal_tells line g e = by (words line) refl e
 
     at_name : (w name count : List ℕ) → words line ≡ w ∷ name ∷ count ∷ [] → (a b : Bool)
         → bytes_eq w (codes "goal") ≡ a → is_identifier name ≡ b
-        → cond (a && b) (option_map (λ n. (name, n)) (count_in count)) None ≡ Some g
+        → (if a && b then option_map (λ n. (name, n)) (count_in count) else None) ≡ Some g
         → IsGoalLine line g.0 g.1
     at_name w name count cut true true s t q =
         at_count w name count cut ((bytes_eq-Decides w (codes "goal")).0 s) t (count_in count) refl

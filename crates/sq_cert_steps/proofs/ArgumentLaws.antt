@@ -1,5 +1,5 @@
 -- Arguments that fit are read back, and what is read as an argument was spelled so.
-use Rattle.std.proofs.Common.{◌≡◌, ◌≤◌, ℕ, suc, Bool, true, false, cond, ◌&&◌}
+use Rattle.std.proofs.Common.{◌≡◌, ◌≤◌, ℕ, suc, Bool, true, false, cond, if◌then◌else◌, ◌&&◌}
 use Rattle.std.proofs.Common.{nat_eq, List, [], ◌∷◌, ◌++◌, Option, Some, None, option_map}
 use Rattle.std.proofs.Common.{codes, decimal, refl, sym, ap, ◌∙◌, arith}
 use Rattle.std.proofs.lemmas.Bool.Decides.{nat_tests}
@@ -274,7 +274,7 @@ letter_is : (k : Kind) (w : List ℕ) (ws : List (List ℕ)) (c letter : ℕ) (m
     → letter_of w ≡ Some c → nat_eq c letter ≡ b → kind_of made ≡ k
     → argument_words made ≡ (letter ∷ []) ∷ [] → argument_fits made ≡ true
     → (other ≡ Some (a, r) → TellsArgument k (w ∷ ws) a r)
-    → cond b (Some (made, ws)) other ≡ Some (a, r) → TellsArgument k (w ∷ ws) a r
+    → (if b then Some (made, ws) else other) ≡ Some (a, r) → TellsArgument k (w ∷ ws) a r
 letter_is k w ws c letter made a r other true is t kind words fits behind e =
     let same : c ≡ letter = grind (arith, nat_tests) in
     built k (w ∷ ws) (made, ws) (a, r) e
@@ -343,7 +343,7 @@ value_tells : TellsWord of_value (λ w r. value_at (letter_of w) r)
 value_tells w ws a r e = by (letter_of w) refl e
   where
     second : (c : ℕ) (b : Bool) → letter_of w ≡ Some c → nat_eq c 116 ≡ b
-        → cond b (followed (ts_spot ws) (λ a r. Some (time_value a, r))) None ≡ Some (a, r)
+        → (if b then followed (ts_spot ws) (λ a r. Some (time_value a, r)) else None) ≡ Some (a, r)
         → TellsArgument of_value (w ∷ ws) a r
     second c true f t g = let same : c ≡ 116 =
         grind (arith, nat_tests) in
@@ -351,8 +351,8 @@ value_tells w ws a r e = by (letter_of w) refl e
     second c false f t g = cc
 
     first : (c : ℕ) (b : Bool) → letter_of w ≡ Some c → nat_eq c 105 ≡ b
-        → cond b (followed (index_spot ws) (λ a r. Some (index_value a, r)))
-        (cond (nat_eq c 116) (followed (ts_spot ws) (λ a r. Some (time_value a, r))) None)
+        → (if b then followed (index_spot ws) (λ a r. Some (index_value a, r)) else if nat_eq c 116
+        then followed (ts_spot ws) (λ a r. Some (time_value a, r)) else None)
         ≡ Some (a, r)
         → TellsArgument of_value (w ∷ ws) a r
     first c true f t g = let same : c ≡ 105 =

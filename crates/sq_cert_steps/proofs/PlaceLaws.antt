@@ -1,5 +1,5 @@
 -- Places, and what is written in their stead, are read back, and what is read was spelled so.
-use Rattle.std.proofs.Common.{◌≡◌, ◌<◌, ◌^◌, ℕ, Bool, true, false, cond, ◌&&◌}
+use Rattle.std.proofs.Common.{◌≡◌, ◌<◌, ◌^◌, ℕ, Bool, true, false, if◌then◌else◌, ◌&&◌}
 use Rattle.std.proofs.Common.{nat_eq, List, [], ◌∷◌, ◌++◌, Option, Some, None, option_map}
 use Rattle.std.proofs.Common.{option_and_then, codes, decimal, refl, sym, ap, ◌∙◌}
 use Rattle.std.proofs.Common.{append_assoc, arith}
@@ -59,7 +59,8 @@ dot_tells : (text behind : List ℕ) → behind_dot text ≡ Some behind → tex
 dot_tells [] behind e = cc
 dot_tells (c ∷ cs) behind e = by (nat_eq c 46) refl e
   where
-    by : (b : Bool) → nat_eq c 46 ≡ b → cond b (Some cs) None ≡ Some behind → c ∷ cs ≡ 46 ∷ behind
+    by : (b : Bool) → nat_eq c 46 ≡ b → (if b then Some cs else None) ≡ Some behind → c ∷ cs ≡ 46
+        ∷ behind
     by true t q = let first : c ≡ 46 =
         grind (arith, nat_tests) in λ i. first i ∷ same_value cs behind q i
     by false t q = cc
@@ -116,7 +117,8 @@ at_letter : (c letter : ℕ) (cs : List ℕ) (q : Place × ℕ) (b : Bool)
     (found other : Option (Place × ℕ)) → nat_eq c letter ≡ b
     → (found ≡ Some q → (64 ∷ letter ∷ cs ≡ place_word q.0 q.1) × (place_fits q.0 q.1 ≡ true))
     → (other ≡ Some q → (64 ∷ c ∷ cs ≡ place_word q.0 q.1) × (place_fits q.0 q.1 ≡ true))
-    → cond b found other ≡ Some q → (64 ∷ c ∷ cs ≡ place_word q.0 q.1) × (place_fits q.0 q.1 ≡ true)
+    → (if b then found else other) ≡ Some q → (64 ∷ c ∷ cs ≡ place_word q.0 q.1)
+    × (place_fits q.0 q.1 ≡ true)
 at_letter c letter cs q true found other t here behind e =
     let same : letter ≡ c = grind (arith, nat_tests) in
     let h = here e in
@@ -141,7 +143,7 @@ pub place_tells : (text : List ℕ) (q : Place × ℕ) → place_of text ≡ Som
 place_tells [] q e = cc
 place_tells (c ∷ cs) q e = by (nat_eq c 64) refl e
   where
-    by : (b : Bool) → nat_eq c 64 ≡ b → cond b (place_behind cs) None ≡ Some q
+    by : (b : Bool) → nat_eq c 64 ≡ b → (if b then place_behind cs else None) ≡ Some q
         → (c ∷ cs ≡ place_word q.0 q.1) × (place_fits q.0 q.1 ≡ true)
     by true t p =
         let first : c ≡ 64 = grind (arith, nat_tests) in
@@ -186,8 +188,8 @@ module _ {A : Type 0} (reader : Word → List (List ℕ) → Found A) where
   spot_at_head : (h : Word) (r : List (List ℕ)) → IsSmall h
       → spot reader (word_text h ∷ r) ≡ Written h r
   spot_at_head h r small =
-      ap (λ b. cond b (placed (place_of (word_text h)) r)
-      (followed (as_found (word_of (word_text h)) r) Written)) (word_is_no_place h)
+      ap (λ b. (if b then placed (place_of (word_text h)) r
+      else followed (as_found (word_of (word_text h)) r) Written)) (word_is_no_place h)
       ∙ ap (λ o. followed (as_found o r) Written) (word_reads h small)
 
   pub written_reads : (ws : List (List ℕ)) (a : A) (q : List (List ℕ))
@@ -201,8 +203,8 @@ module _ {A : Type 0} (reader : Word → List (List ℕ) → Found A) where
   pub at_reads : (p : Place) (k : ℕ) (ws : List (List ℕ)) → place_fits p k ≡ true
       → spot reader (place_word p k ∷ ws) ≡ Some (at p k, ws)
   at_reads p k ws h =
-      ap (λ b. cond b (placed (place_of (place_word p k)) ws)
-      (followed (as_found (word_of (place_word p k)) ws) Written)) (place_is p k)
+      ap (λ b. (if b then placed (place_of (place_word p k)) ws
+      else followed (as_found (word_of (place_word p k)) ws) Written)) (place_is p k)
       ∙ ap (λ o. placed o ws) (place_reads p k h)
 
   -- what a spot is that was read
@@ -234,7 +236,8 @@ module _ {A : Type 0} (reader : Word → List (List ℕ) → Found A) where
   spot_tells [] s q e = cc
   spot_tells (w ∷ ws) s q e = by (is_place w) e
     where
-      by : (b : Bool) → cond b (placed (place_of w) ws) (followed (as_found (word_of w) ws) Written)
+      by : (b : Bool) → (if b then placed (place_of w) ws
+          else followed (as_found (word_of w) ws) Written)
           ≡ Some (s, q) → TellsSpot (w ∷ ws) s q
       by true p = placed_tells w ws s q (place_of w) refl p
       by false p = out_tells w ws s q p

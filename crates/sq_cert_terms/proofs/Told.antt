@@ -1,6 +1,7 @@
 -- What is read was spelled so: indices, timestamps and terms.
 use Rattle.std.proofs.Common.{◌≡◌, ◌<◌, ◌≤◌, ◌^◌, ℕ, zero, suc, Bool, true, false}
-use Rattle.std.proofs.Common.{cond, ◌&&◌, nat_eq, nat_lt, List, [], ◌∷◌, ◌++◌, length, codes}
+use Rattle.std.proofs.Common.{if◌then◌else◌, ◌&&◌, nat_eq, nat_lt, List, [], ◌∷◌, ◌++◌, length}
+use Rattle.std.proofs.Common.{codes}
 use Rattle.std.proofs.Common.{Option, Some, None, refl, sym, ap, ◌∙◌, subst, append_assoc}
 use Rattle.std.proofs.Common.{append-nil, arith}
 use Rattle.std.proofs.lemmas.Bool.Decides.{nat_tests}
@@ -144,7 +145,7 @@ pub indices_tell : (room n : ℕ) (ws : List (List ℕ)) (is : List Idx) (r : Li
 indices_tell room n ws is r e = by (nat_eq room 0 && nat_lt 0 n) refl e
   where
     by : (b : Bool) → (nat_eq room 0 && nat_lt 0 n) ≡ b
-        → cond b None (indices_on [] n ws) ≡ Some (is, r) → TellsIndices room n ws is r
+        → (if b then None else indices_on [] n ws) ≡ Some (is, r) → TellsIndices room n ws is r
     by true t q = cc
     by false t q =
         let told = indices_on_tell n [] ws is r q in

@@ -1,5 +1,6 @@
 -- A word is found among those that begin with its first letter.
-use Rattle.std.proofs.Common.{◌≡◌, ℕ, Bool, true, false, cond, nat_eq, List, [], ◌∷◌, length, filter}
+use Rattle.std.proofs.Common.{◌≡◌, ℕ, Bool, true, false, if◌then◌else◌, nat_eq, List, [], ◌∷◌}
+use Rattle.std.proofs.Common.{length, filter}
 use Rattle.std.proofs.Common.{find, slice_index, Some, None, bytes_eq, refl, sym, ap, arith}
 use Rattle.std.proofs.lemmas.Slice.Eq.{bytes_eq-Decides}
 use Rattle.std.proofs.lemmas.Bool.Decides.{nat_tests}
@@ -14,7 +15,8 @@ find-filter {X} test keeps (x ∷ xs) all =
   where
     by : (k t : Bool) → keeps x ≡ k → test x ≡ t
         → find test (filter keeps xs) ≡ find test xs
-        → find test (cond k (x ∷ filter keeps xs) (filter keeps xs)) ≡ cond t (Some x) (find test xs)
+        → find test (if k then x ∷ filter keeps xs else filter keeps xs)
+        ≡ (if t then Some x else find test xs)
     by true true k t e = rw t
     by true false k t e = rw t e
     by false true k t e = let kept = all x t in cc

@@ -1,5 +1,6 @@
 -- A line is its words, and the words of a line are those that it was joined of.
-use Rattle.std.proofs.Common.{◌≡◌, ◌≢◌, ◌≤◌, ℕ, ◌+◌, Bool, true, false, cond, nat_eq, nat_lt}
+use Rattle.std.proofs.Common.{◌≡◌, ◌≢◌, ◌≤◌, ℕ, ◌+◌, Bool, true, false, if◌then◌else◌, nat_eq}
+use Rattle.std.proofs.Common.{nat_lt}
 use Rattle.std.proofs.Common.{List, []}
 use Rattle.std.proofs.Common.{◌∷◌, ◌++◌, length, take, refl, sym, ap, ◌∙◌, append_assoc, append-nil}
 use Rattle.std.proofs.Common.{length-append, length-take, arith}
@@ -80,7 +81,7 @@ first_word front (c ∷ cs) = by (nat_eq c 32) (first_word (front ++ (c ∷ []))
     by : (b : Bool)
         → (w : List ℕ) × (ws : List (List ℕ)) × (words_on (front ++ (c ∷ [])) cs ≡ w ∷ ws)
         → (w : List ℕ) × (ws : List (List ℕ))
-        × (cond b (front ∷ words_on [] cs) (words_on (front ++ (c ∷ [])) cs) ≡ w ∷ ws)
+        × ((if b then front ∷ words_on [] cs else words_on (front ++ (c ∷ [])) cs) ≡ w ∷ ws)
     by true h = (front, words_on [] cs, refl)
     by false h = h
 
@@ -97,7 +98,7 @@ joined_on front (c ∷ cs) =
         → (w : List ℕ) × (ws : List (List ℕ)) × (words_on [] cs ≡ w ∷ ws)
         → joined (words_on [] cs) ≡ cs
         → joined (words_on (front ++ (c ∷ [])) cs) ≡ (front ++ (c ∷ [])) ++ cs
-        → joined (cond b (front ∷ words_on [] cs) (words_on (front ++ (c ∷ [])) cs))
+        → joined (if b then front ∷ words_on [] cs else words_on (front ++ (c ∷ [])) cs)
         ≡ front ++ (c ∷ cs)
     by true t f new on =
         let blank : c ≡ 32 = grind (arith, nat_tests) in

@@ -1,6 +1,7 @@
 -- A number is read from the front of a text exactly where its decimal digits stand there.
 use Rattle.std.proofs.Common.{◌≡◌, ◌<◌, ◌≤◌, ◌^◌, ℕ, ◌+◌, ◌-◌, ◌*◌, ◌/◌, ◌%◌, Bool, true, false}
-use Rattle.std.proofs.Common.{cond, nat_le, nat_eq, List, [], ◌∷◌, ◌++◌, Option, Some, None}
+use Rattle.std.proofs.Common.{if◌then◌else◌, nat_le, nat_eq, List, [], ◌∷◌, ◌++◌, Option, Some}
+use Rattle.std.proofs.Common.{None}
 use Rattle.std.proofs.Common.{decimal, refl, sym, ap, ◌∙◌, append_assoc, append-nil, arith}
 use Rattle.std.proofs.Common.{option_and_then, ◌≢◌}
 use Rattle.std.proofs.lemmas.Bool.Decides.{nat_tests}
@@ -128,7 +129,7 @@ Told most v bs n rest = 0 < v → v ≤ most → digits_on most v bs ≡ Some (n
 told_further : (most v c : ℕ) (cs : List ℕ) (n : ℕ) (rest : List ℕ) → most < 2 ^ 64 → 0 < v
     → is_ascii_digit c ≡ true
     → Told most (v * 10 + (c - 48)) cs n rest → (b : Bool) → nat_le (v * 10 + (c - 48)) most ≡ b
-    → cond b (digits_on most (v * 10 + (c - 48)) cs) None ≡ Some (n, rest)
+    → (if b then digits_on most (v * 10 + (c - 48)) cs else None) ≡ Some (n, rest)
     → (decimal v ++ (c ∷ cs) ≡ decimal n ++ rest) × (n ≤ most)
 told_further most v c cs n rest wide some digit go true t e =
     let within : v * 10 + (c - 48) ≤ most = grind (arith, nat_tests) in
@@ -142,8 +143,8 @@ told_further most v c cs n rest wide some digit go false t e = cc
 told_at : (most v c : ℕ) (cs : List ℕ) (n : ℕ) (rest : List ℕ) → most < 2 ^ 64
     → Told most (v * 10 + (c - 48)) cs n rest
     → (b : Bool) → is_ascii_digit c ≡ b → 0 < v → v ≤ most
-    → cond b (cond (nat_le (v * 10 + (c - 48)) most) (digits_on most (v * 10 + (c - 48)) cs) None)
-    (Some (v, c ∷ cs)) ≡ Some (n, rest)
+    → (if b then if nat_le (v * 10 + (c - 48)) most then digits_on most (v * 10 + (c - 48)) cs
+    else None else Some (v, c ∷ cs)) ≡ Some (n, rest)
     → (decimal v ++ (c ∷ cs) ≡ decimal n ++ rest) × (n ≤ most)
 told_at most v c cs n rest wide go true digit some fits e =
     told_further most v c cs n rest wide some digit go (nat_le (v * 10 + (c - 48)) most) refl e
@@ -165,7 +166,7 @@ digits_tell most v (c ∷ cs) n rest wide some fits e =
 
 begun : (most c : ℕ) (cs : List ℕ) (n : ℕ) (rest : List ℕ) → 9 ≤ most → most < 2 ^ 64 → (b d : Bool)
     → nat_eq c 48 ≡ b → is_ascii_digit c ≡ d
-    → cond b (Some (0, cs)) (cond d (digits_on most (c - 48) cs) None) ≡ Some (n, rest)
+    → (if b then Some (0, cs) else if d then digits_on most (c - 48) cs else None) ≡ Some (n, rest)
     → (c ∷ cs ≡ decimal n ++ rest) × (n ≤ most)
 begun most c cs n rest nine wide true d zero digit e =
     let same = same_found (0, cs) (n, rest) e in
@@ -242,7 +243,8 @@ slash_tells : (bs behind : List ℕ) → behind_slash bs ≡ Some behind → bs 
 slash_tells [] behind e = cc
 slash_tells (c ∷ cs) behind e = by (nat_eq c 47) refl e
   where
-    by : (b : Bool) → nat_eq c 47 ≡ b → cond b (Some cs) None ≡ Some behind → c ∷ cs ≡ 47 ∷ behind
+    by : (b : Bool) → nat_eq c 47 ≡ b → (if b then Some cs else None) ≡ Some behind → c ∷ cs ≡ 47
+        ∷ behind
     by true t q = let first : c ≡ 47 =
         grind (arith, nat_tests) in λ i. first i ∷ same_value cs behind q i
     by false t q = cc

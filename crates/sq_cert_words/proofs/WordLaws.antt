@@ -1,5 +1,5 @@
 -- A word is told by exactly its own text.
-use Rattle.std.proofs.Common.{◌≡◌, ◌<◌, ◌^◌, ℕ, ◌+◌, ◌%◌, Bool, true, false, cond, nat_eq}
+use Rattle.std.proofs.Common.{◌≡◌, ◌<◌, ◌^◌, ℕ, ◌+◌, ◌%◌, Bool, true, false, if◌then◌else◌, nat_eq}
 use Rattle.std.proofs.Common.{nat_lt}
 use Rattle.std.proofs.Common.{List, [], ◌∷◌, ◌++◌, take, drop, find, slice_index, Option}
 use Rattle.std.proofs.Common.{Some, None, option_map, codes, decimal, bytes_eq, refl, sym, ap, ◌∙◌}
@@ -28,7 +28,7 @@ pub found_passes : {X : Type 0} (test : X → Bool) (xs : List X) (x : X) → fi
 found_passes test [] x e = cc
 found_passes test (y ∷ ys) x e = by (test y) refl e (found_passes test ys x)
   where
-    by : (b : Bool) → test y ≡ b → cond b (Some y) (find test ys) ≡ Some x
+    by : (b : Bool) → test y ≡ b → (if b then Some y else find test ys) ≡ Some x
         → (find test ys ≡ Some x → test x ≡ true) → test x ≡ true
     by true p q h = cc
     by false p q h = h q
@@ -134,8 +134,8 @@ find_tells cs w begins e =
     )
 
 with_f_tells : (cs : List ℕ) (w : Word) → (a b : Bool) → starts_with nat_eq cs (codes "ind") ≡ b
-    → cond a (option_map (λ p. word.Function p.0 p.1.0 p.1.1) (three_numbers cs))
-    (cond b (option_map word.Find (last_number (drop 3 cs))) (a_plain_word (102 ∷ cs))) ≡ Some w
+    → (if a then option_map (λ p. word.Function p.0 p.1.0 p.1.1) (three_numbers cs) else if b
+    then option_map word.Find (last_number (drop 3 cs)) else a_plain_word (102 ∷ cs)) ≡ Some w
     → Tells (102 ∷ cs) w
 with_f_tells cs w true b begins e = function_tells cs w e
 with_f_tells cs w false true begins e = find_tells cs w begins e
@@ -144,7 +144,7 @@ with_f_tells cs w false false begins e = plain_word_tells (102 ∷ cs) w e
 at_letter : (c letter : ℕ) (cs : List ℕ) (w : Word) (b : Bool) (found other : Option Word)
     → nat_eq c letter ≡ b
     → (found ≡ Some w → Tells (letter ∷ cs) w) → (other ≡ Some w → Tells (c ∷ cs) w)
-    → cond b found other ≡ Some w → Tells (c ∷ cs) w
+    → (if b then found else other) ≡ Some w → Tells (c ∷ cs) w
 at_letter c letter cs w true found other t here behind e =
     let same : letter ≡ c = grind (arith, nat_tests) in
     subst (λ x. Tells (x ∷ cs) w) same (here e)

@@ -35,7 +35,8 @@ abbrev pub with_more : Option Files → List ℕ → List ℕ → Option Files
 with_more files name bytes = option_map
     (λ m. insert m name (unwrap_or (get m name) [] ++ bytes)) files
 
--- after an append that failed: what was there, or that with a front of the piece behind a file that is there
+-- after an append that failed: what was there, or that with a front of the piece behind a file that
+-- is there
 abbrev pub KeptOrFront : Option Files → Option Files → List ℕ → List ℕ → Type 0
 KeptOrFront old new name piece = (new ≡ old)
     ⊎ ((n : ℕ) × (Lacks old name → ⊥) × (new ≡ with_more old name (take n piece)))
@@ -44,7 +45,8 @@ KeptOrFront old new name piece = (new ≡ old)
 abbrev pub and_then_bytes : Option (List ℕ) → List ℕ → Option (List ℕ)
 and_then_bytes known bytes = option_map (λ old. old ++ bytes) known
 
--- a piece of the file from that place on. None comes only where no byte is left or none was asked for
+-- a piece of the file from that place on. None comes only where no byte is left or none was asked
+-- for
 pub record IsPiece (file : List ℕ) (at room : ℕ) (piece : List ℕ) : Type 0 where
   pub front : piece ≡ take (length piece) (drop at file)
   pub end : 0 < room → length piece ≡ 0 → length file ≤ at

@@ -63,7 +63,8 @@ append_outcome true file = Err Failed
 append_outcome false None = Err Missing
 append_outcome false (Some file) = Ok tt
 
--- The call gives its outcome, and `starved` stays. Or memory ran out: what would have been done fails, and `starved` rises.
+-- The call gives its outcome, and `starved` stays. Or memory ran out: what would have been done
+-- fails, and `starved` rises.
 abbrev pub GivesOrStarves : {A E : Type 0} → E → Result A E → Result A E → ℕ → ℕ → Type 0
 GivesOrStarves fault outcome result before after =
     ((result ≡ outcome) × (after ≡ before))
@@ -78,6 +79,7 @@ abbrev pub put_outcome : Bool → ℕ → ℕ → Result ℕ SinkFault
 put_outcome true most len = Err sink_fault
 put_outcome false most len = Ok (min most len)
 
--- whether a put counts as a failed one: its number fails, or nothing can be taken of a piece that is not empty
+-- whether a put counts as a failed one: its number fails, or nothing can be taken of a piece that
+-- is not empty
 abbrev pub is_failed_put : Bool → ℕ → ℕ → Bool
 is_failed_put fails most len = fails || ((most == 0) && not (len == 0))

@@ -12,3 +12,4 @@ pub mod ReplacedSorts
 pub mod InstanceSorts
 pub mod NoSmaller
 pub mod Timeless
+pub mod Reached

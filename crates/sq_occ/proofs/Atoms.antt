@@ -1,6 +1,7 @@
 -- No atom stands in what a term means: bodies hold no schema variable, so that no record has one.
 use Rattle.std.proofs.Common.{◌≡◌, refl, ℕ, zero, suc, List, [], ◌∷◌}
-use Rattle.std.proofs.Common.{◌++◌, map, get_or, Bool, true, false, cond, ◌||◌, Option, Some}
+use Rattle.std.proofs.Common.{◌++◌, map, get_or, Bool, true, false, if◌then◌else◌, ◌||◌, Option}
+use Rattle.std.proofs.Common.{Some}
 use Rattle.std.proofs.Common.{None, slice_get}
 use Rattle.sq_term.specs.declared.model.Inst.{Inst}
 use Rattle.sq_term.specs.declared.model.Model.{Model}
@@ -55,7 +56,7 @@ find-free f g o (xs ∷ xss) h k l =
 
 module _ (w : World) (a : Assignment)
     (values : (m : GroundMacro) (v : Option ℕ) → Free (w.values m v)) where
-  one_side : (b : Bool) (x y : Ground) → Free x → Free y → Free (cond b x y)
+  one_side : (b : Bool) (x y : Ground) → Free x → Free y → Free (if b then x else y)
   one_side true x y h k = h
   one_side false x y h k = k
 

@@ -1,6 +1,6 @@
 -- What a side of a term lists, with the bodies' places found once or with none.
 use Rattle.std.proofs.Common.{◌≡◌, ◌≢◌, refl, sym, ap, ◌∙◌, subst, ℕ, ◌+◌, ◌<◌, ◌≤◌, List, [], map}
-use Rattle.std.proofs.Common.{Bool, true, false, cond, nat_le, arith}
+use Rattle.std.proofs.Common.{Bool, true, false, if◌then◌else◌, nat_le, arith}
 use Rattle.std.proofs.lemmas.Bool.Decides.{nat_tests}
 use Rattle.std.specs.Prelude.{Ok, Err}
 use Rattle.sq_base.specs.declared.sort.Sort.{Sort}
@@ -67,7 +67,8 @@ module _ (funs : List FunDecl) (n : ℕ) (left : Bool) (s : SystemTree) (t : Ter
             let here : HaveShallowMessages (scan whole [] false t) =
             subst HaveShallowMessages (sym side_whole) shallow in
             let part : (b : List Sort) × (m : Macro) × (x : TsTree)
-            × HaveShallowMessages (met_in_all found b m x) = part_shallow whole t [] false reads here in
+            × HaveShallowMessages (met_in_all found b m x) =
+            part_shallow whole t [] false reads here in
             let b : room < all_nodes found =
             p.1 (places_shallow found part.0 part.1 part.2 part.3) in
             let more : all_nodes found ≤ list_nodes (scan whole [] false t) =
@@ -102,7 +103,7 @@ module _ (funs : List FunDecl) (s : SystemTree) (n : ℕ) (t : TermTree) where
   pub outcome_schema : (side : Side) → holds_schema t ≡ true
       → outcome funs s n side t ≡ Err HasSchema
   outcome_schema side h =
-      ap (λ b. cond b (Err HasSchema) (within_nodes (places funs s n side t))) h
+      ap (λ b. (if b then Err HasSchema else within_nodes (places funs s n side t))) h
 
   pub outcome_list : (side : Side) (us : List OccTree) (room : ℕ) → holds_schema t ≡ false
       → us ≡ places funs s n side t → room + list_nodes (places funs s n side t) ≡ 8388608
@@ -110,13 +111,13 @@ module _ (funs : List FunDecl) (s : SystemTree) (n : ℕ) (t : TermTree) where
   outcome_list side us room h e r =
       let fits : nat_le (list_nodes (places funs s n side t)) 8388608 ≡ true =
       grind (arith, nat_tests) in
-      ap (λ b. cond b (Err HasSchema) (within_nodes (places funs s n side t))) h
-      ∙ (ap (λ b. cond b (Ok (places funs s n side t)) (Err TooLarge)) fits ∙ ap Ok (sym e))
+      ap (λ b. (if b then Err HasSchema else within_nodes (places funs s n side t))) h
+      ∙ (ap (λ b. (if b then Ok (places funs s n side t) else Err TooLarge)) fits ∙ ap Ok (sym e))
 
   pub outcome_large : (side : Side) → holds_schema t ≡ false
       → 8388608 < list_nodes (places funs s n side t) → outcome funs s n side t ≡ Err TooLarge
   outcome_large side h l =
       let passes : nat_le (list_nodes (places funs s n side t)) 8388608 ≡ false =
       grind (arith, nat_tests) in
-      ap (λ b. cond b (Err HasSchema) (within_nodes (places funs s n side t))) h
-      ∙ ap (λ b. cond b (Ok (places funs s n side t)) (Err TooLarge)) passes
+      ap (λ b. (if b then Err HasSchema else within_nodes (places funs s n side t))) h
+      ∙ ap (λ b. (if b then Ok (places funs s n side t) else Err TooLarge)) passes

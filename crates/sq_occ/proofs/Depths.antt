@@ -1,7 +1,9 @@
--- A message has no more depth where a side is taken of it and indices are bound in it, so that it can
+-- A message has no more depth where a side is taken of it and indices are bound in it, so that it
+-- can
 -- be too large by its nodes alone.
 use Rattle.std.proofs.Common.{◌≡◌, refl, sym, ap, ◌∙◌, subst, ℕ, ◌+◌, ◌<◌, ◌≤◌, max, List, []}
-use Rattle.std.proofs.Common.{◌∷◌, map, length, Bool, true, false, cond, nat_le, ◌&&◌, arith}
+use Rattle.std.proofs.Common.{◌∷◌, map, length, Bool, true, false, if◌then◌else◌, nat_le, ◌&&◌}
+use Rattle.std.proofs.Common.{arith}
 use Rattle.std.proofs.lemmas.Bool.Decides.{nat_tests}
 use Rattle.std.specs.Prelude.{Ok, Err, reverse, ◌≢◌}
 use Rattle.std.proofs.lemmas.List.{length-reverse}
@@ -73,7 +75,7 @@ pub too_many : (room : ℕ) (t : TermTree) → depth t ≤ 1024 → within room 
 too_many room t d e = at (nat_le (size t) room) (nat_le (depth t) 1024) refl refl e
   where
     at : (b c : Bool) → nat_le (size t) room ≡ b → nat_le (depth t) 1024 ≡ c
-        → cond (b && c) (Ok t) (Err TooLarge) ≡ Err TooLarge → room < size t
+        → (if b && c then Ok t else Err TooLarge) ≡ Err TooLarge → room < size t
     at true true f g e = absurd (let x : Ok t ≡ Err TooLarge = e in cc)
     at true false f g e = let no : 1024 < depth t = grind (arith, nat_tests) in absurd (omega arith)
     at false c f g e = grind (arith, nat_tests)

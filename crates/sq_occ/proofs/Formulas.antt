@@ -1,6 +1,7 @@
 -- What the formula of a list says at an assignment.
 use Rattle.std.proofs.Common.{◌≡◌, refl, sym, ap, ◌∙◌, subst, suc, ◌⊎◌, inl, inr, ⊎_elim}
-use Rattle.std.proofs.Common.{List, [], ◌∷◌, ◌++◌, map, length, Bool, true, false, cond, ◌==◌}
+use Rattle.std.proofs.Common.{List, [], ◌∷◌, ◌++◌, map, length, Bool, true, false, if◌then◌else◌}
+use Rattle.std.proofs.Common.{◌==◌}
 use Rattle.std.proofs.lemmas.Bool.{eqb-true, eq-eqb}
 use Rattle.sq_base.specs.declared.sort.Sort.{Sort}
 use Rattle.sq_term.specs.declared.model.Value.{Value}
@@ -31,7 +32,7 @@ use Rattle.sq_occ.specs.Met.{IsMet}
 -- the elements of a list stay where repeats are taken out
 kept_or_same : (t u x : TermTree) (us : List TermTree) (b : Bool) → is_same_tree t u ≡ b
     → Member (u ∷ us) x → (Member us x → (t ≡ x) ⊎ Member (without t us) x)
-    → (t ≡ x) ⊎ Member (cond b (without t us) (u ∷ without t us)) x
+    → (t ≡ x) ⊎ Member (if b then without t us else (u ∷ without t us)) x
 kept_or_same t u x us true e here later = inl ((is_same_tree-decides t u).0 e)
 kept_or_same t u x us true e (there j) later = later j
 kept_or_same t u x us false e here later = inr here
@@ -52,7 +53,7 @@ member-distinct (t ∷ ts) x (there i) =
     (member-without t (distinct ts) x (member-distinct ts x i))
 
 was_kept : (t u x : TermTree) (us : List TermTree) (b : Bool)
-    → Member (cond b (without t us) (u ∷ without t us)) x
+    → Member (if b then without t us else (u ∷ without t us)) x
     → (Member (without t us) x → Member us x) → Member (u ∷ us) x
 was_kept t u x us true i later = there (later i)
 was_kept t u x us false here later = here
@@ -141,14 +142,14 @@ module _ (w : World) (a : Assignment) where
     guard_from : (es : List Value) (g : TermTree) → IsTrue es g → Each (IsTrue es) (guards g)
     guard_from es g h = at (is_same_tree g truth)
       where
-        at : (b : Bool) → Each (IsTrue es) (cond b [] (g ∷ []))
+        at : (b : Bool) → Each (IsTrue es) (if b then [] else (g ∷ []))
         at true = each_none (IsTrue es)
         at false = each_single g (IsTrue es) h
 
     guard_to : (es : List Value) (g : TermTree) → Each (IsTrue es) (guards g) → IsTrue es g
     guard_to es g h = at (is_same_tree g truth) refl h
       where
-        at : (b : Bool) → is_same_tree g truth ≡ b → Each (IsTrue es) (cond b [] (g ∷ []))
+        at : (b : Bool) → is_same_tree g truth ≡ b → Each (IsTrue es) (if b then [] else (g ∷ []))
             → IsTrue es g
         at true e k = subst (IsTrue es) (sym ((is_same_tree-decides g truth).0 e)) refl
         at false e k = k g here

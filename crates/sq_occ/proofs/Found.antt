@@ -1,6 +1,6 @@
 -- The bodies' places, found once and met at each macro, are what the definition lists there.
 use Rattle.std.proofs.Common.{◌≡◌, refl, sym, ap, ◌∙◌, ℕ, suc, ◌+◌, List, []}
-use Rattle.std.proofs.Common.{◌∷◌, map, length, Bool, true, false, cond, ◌||◌}
+use Rattle.std.proofs.Common.{◌∷◌, map, length, Bool, true, false, if◌then◌else◌, ◌||◌}
 use Rattle.std.proofs.Common.{Option, Some, None, arith, nat_lt, ◌-◌}
 use Rattle.std.proofs.lemmas.Bool.Decides.{nat_tests}
 use Rattle.sq_base.specs.declared.sort.Sort.{Sort}
@@ -34,7 +34,7 @@ not_below_zero k = grind (arith, nat_tests)
 
 bound_none : (m : ℕ) (i : Idx) → bound_index 0 m i ≡ i
 bound_none m (Free k) =
-    ap (λ b. cond b (Bound (m + (0 - suc k))) (Free k)) (not_below_zero k)
+    ap (λ b. (if b then Bound (m + (0 - suc k)) else Free k)) (not_below_zero k)
 bound_none m (Bound k) = refl
 
 bounds_none : (m : ℕ) (is : List Idx) → map (bound_index 0 m) is ≡ is
@@ -124,7 +124,7 @@ module _ (S : Scan) (M : List Sort → Macro → TsTree → List OccTree) where
   abbrev other : Scan
   other = record S { at_macro = M }
 
-  none_left : (l : Bool) (p q : Bool) → cond l p q ≡ false → (l ≡ true → p ≡ false)
+  none_left : (l : Bool) (p q : Bool) → (if l then p else q) ≡ false → (l ≡ true → p ≡ false)
       × (l ≡ false → q ≡ false)
   none_left true p q e = ((λ f. e), λ f. absurd (let x : true ≡ false = f in cc))
   none_left false p q e = ((λ f. absurd (let x : false ≡ true = f in cc)), λ f. e)
@@ -152,20 +152,20 @@ module _ (S : Scan) (M : List Sort → Macro → TsTree → List OccTree) where
         at : (l : Bool) → S.left ≡ l
             → (reads_macro S.left x ≡ false → scan S b e x ≡ scan other b e x)
             → (reads_macro S.left y ≡ false → scan S b e y ≡ scan other b e y)
-            → cond S.left (scan S b e x) (scan S b e y)
-            ≡ cond S.left (scan other b e x) (scan other b e y)
+            → (if S.left then scan S b e x else scan S b e y)
+            ≡ (if S.left then scan other b e x else scan other b e y)
         at true f hx hy =
             let p : reads_macro S.left x ≡ false =
             (none_left S.left (reads_macro S.left x) (reads_macro S.left y) h).0 f in
             let q = hx p in
-            ap (λ c. cond c (scan S b e x) (scan S b e y)) f
-            ∙ (q ∙ sym (ap (λ c. cond c (scan other b e x) (scan other b e y)) f))
+            ap (λ c. (if c then scan S b e x else scan S b e y)) f
+            ∙ (q ∙ sym (ap (λ c. (if c then scan other b e x else scan other b e y)) f))
         at false f hx hy =
             let p : reads_macro S.left y ≡ false =
             (none_left S.left (reads_macro S.left x) (reads_macro S.left y) h).1 f in
             let q = hy p in
-            ap (λ c. cond c (scan S b e x) (scan S b e y)) f
-            ∙ (q ∙ sym (ap (λ c. cond c (scan other b e x) (scan other b e y)) f))
+            ap (λ c. (if c then scan S b e x else scan S b e y)) f
+            ∙ (q ∙ sym (ap (λ c. (if c then scan other b e x else scan other b e y)) f))
     scan_same (le t s) b e h = refl
     scan_same (ts_eq t s) b e h = refl
     scan_same (idx_eq i j) b e h = refl

@@ -1,5 +1,6 @@
 -- Lists that grow one after the other.
-use Rattle.std.proofs.Common.{◌≡◌, refl, sym, ap, ◌∙◌, subst, ℕ, zero, suc, ◌+◌, ◌<◌, List, [], ◌∷◌, ◌++◌, length}
+use Rattle.std.proofs.Common.{◌≡◌, refl, sym, ap, ◌∙◌, subst, ℕ, zero, suc, ◌+◌, ◌<◌, List, [], ◌∷◌}
+use Rattle.std.proofs.Common.{◌++◌, length}
 use Rattle.std.proofs.Common.{replicate, arith, append_assoc}
 use Rattle.std.proofs.Common.{drop, get_or}
 use Rattle.std.proofs.lemmas.List.{drop_more}
@@ -23,7 +24,8 @@ pub append_none : {A : Type 0} (xs : List A) → xs ++ [] ≡ xs
 append_none [] = refl
 append_none (x ∷ xs) = ap (λ ys. x ∷ ys) (append_none xs)
 
-pub list_nodes-append : (us vs : List OccTree) → list_nodes (us ++ vs) ≡ list_nodes us + list_nodes vs
+pub list_nodes-append : (us vs : List OccTree) → list_nodes (us ++ vs)
+    ≡ list_nodes us + list_nodes vs
 list_nodes-append [] vs = omega arith
 list_nodes-append (u ∷ us) vs = omega (arith, list_nodes-append us vs)
 
@@ -165,7 +167,8 @@ replicate-push [] zero x = refl
 replicate-push [] (suc c) x = ap (λ ys. x ∷ ys) (replicate-push [] c x)
 replicate-push (y ∷ xs) c x = ap (λ ys. y ∷ ys) (replicate-push xs c x)
 
-pub occ_trees-push : (os : List Occ) (o : Occ) → occ_trees (os ++ o ∷ []) ≡ occ_trees os ++ occ_tree o ∷ []
+pub occ_trees-push : (os : List Occ) (o : Occ) → occ_trees (os ++ o ∷ []) ≡ occ_trees os
+    ++ occ_tree o ∷ []
 occ_trees-push [] o = refl
 occ_trees-push (x ∷ os) o = ap (λ us. occ_tree x ∷ us) (occ_trees-push os o)
 

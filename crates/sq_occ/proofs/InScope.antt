@@ -1,6 +1,7 @@
 -- Each entry of a well-sorted term is in scope.
 use Rattle.std.proofs.Common.{◌≡◌, refl, sym, ap, ◌∙◌, subst, ℕ, zero, suc, ◌+◌, ◌-◌, ◌<◌, List, []}
-use Rattle.std.proofs.Common.{◌∷◌, ◌++◌, map, length, replicate, Bool, true, false, cond, ◌&&◌}
+use Rattle.std.proofs.Common.{◌∷◌, ◌++◌, map, length, replicate, Bool, true, false, if◌then◌else◌}
+use Rattle.std.proofs.Common.{◌&&◌}
 use Rattle.std.proofs.Common.{◌==◌, nat_lt, Some, None, arith, slice_get}
 use Rattle.std.specs.List.{list_all}
 use Rattle.std.proofs.lemmas.Bool.{eq-eqb}
@@ -67,7 +68,7 @@ binders-indices (suc c) b h =
     binders-indices c (Index ∷ b) (each_cons Index b (λ s. is_binder_sort s ≡ true) refl h)
 
 each_if : {A : Type 0} (c : Bool) (P : A → Type 0) (xs ys : List A) → Each P xs → Each P ys
-    → Each P (cond c xs ys)
+    → Each P (if c then xs else ys)
 each_if true P xs ys h k = h
 each_if false P xs ys h k = k
 
@@ -123,7 +124,7 @@ module _ (g : Signature) (ok : are_functions g.funs ≡ true) (n : ℕ)
 
   keyed_scope : (c : Bool) (u : OccTree) (us vs : List OccTree)
       → (c ≡ true → IsInScope g u) → Each (IsInScope g) us → Each (IsInScope g) vs
-      → Each (IsInScope g) (cond c (u ∷ us) vs)
+      → Each (IsInScope g) (if c then u ∷ us else vs)
   keyed_scope true u us vs h k l = each_cons u us (IsInScope g) (h refl) k
   keyed_scope false u us vs h k l = l
 
@@ -144,9 +145,9 @@ module _ (g : Signature) (ok : are_functions g.funs ≡ true) (n : ℕ)
         let role : RoleTree = key f (first_term ts) (side && is_hash (function_role g.funs f)) in
         keyed_scope (is_keyed (function_role g.funs f) && is_keyed_by n ts)
         (place n (second_args ts) role b) (walk_first g.funs n at_macro (λ b k. []) b ts)
-        (cond (is_pk (function_role g.funs f) && is_only_name n ts)
-        (place n (first_args ts) public b ∷ [])
-        (walk_all g.funs n at_macro (λ b k. []) b (is_equality f) ts))
+        (if is_pk (function_role g.funs f) && is_only_name n ts
+        then place n (first_args ts) public b ∷ []
+        else walk_all g.funs n at_macro (λ b k. []) b (is_equality f) ts)
         (λ e. in_place (second_args ts) role b bs (second_indices_of b f 0 ts p)
         (first_message b f ts (is_keyed (function_role g.funs f)) refl e p))
         (first_scope ts b f 0 bs p)
@@ -262,10 +263,10 @@ module _ (e : EnvTree) (s : SystemTree) (schemas : ℕ) (vars : List Sort) where
         let at : has_sort_at (bs ++ with_indices r b) (m + (r - suc k)) Index ≡ true =
         at-behind bs (with_indices r b) (r - suc k) m Index l
         (at-indices r b (r - suc k) (omega arith)) in
-        subst (λ xs. is_index g xs (cond (nat_lt k r) (Bound (m + (r - suc k))) (Free k)) ≡ true)
+        subst (λ xs. is_index g xs (if nat_lt k r then Bound (m + (r - suc k)) else Free k) ≡ true)
         (sym c)
         (ap (λ y. is_index g (bs ++ with_indices r b)
-        (cond y (Bound (m + (r - suc k))) (Free k))) test ∙ at)
+        (if y then Bound (m + (r - suc k)) else Free k)) test ∙ at)
     inside_index m bs cs (Bound k) l c h =
         subst (λ xs. has_sort_at xs k Index ≡ true) (sym c)
         (at-front bs (with_indices r b) k Index h)

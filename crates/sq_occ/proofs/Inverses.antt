@@ -1,6 +1,7 @@
 -- From values that fit an entry and make its guard true back to the instance that it speaks of.
 use Rattle.std.proofs.Common.{◌≡◌, refl, sym, ap, ◌∙◌, ℕ, zero, suc, ◌+◌, ◌<◌, ◌≤◌, List, []}
-use Rattle.std.proofs.Common.{◌∷◌, ◌++◌, length, map, get_or, Bool, true, false, cond, nat_le, ◌==◌}
+use Rattle.std.proofs.Common.{◌∷◌, ◌++◌, length, map, get_or, Bool, true, false, if◌then◌else◌}
+use Rattle.std.proofs.Common.{nat_le, ◌==◌}
 use Rattle.std.proofs.Common.{Option, Some, None, arith, ◌⊎◌, inl, inr}
 use Rattle.std.proofs.lemmas.Bool.{eqb-true}
 use Rattle.std.proofs.lemmas.Bool.Decides.{nat_tests}
@@ -62,7 +63,7 @@ place_inverse p (j ∷ list) k ns r e =
     go (is_instance k ns j) refl e (λ f. place_inverse (suc p) list k ns r f)
   where
     go : (b : Bool) → is_instance k ns j ≡ b
-        → cond b (Some p) (place_from (suc p) list k ns) ≡ Some r
+        → (if b then Some p else place_from (suc p) list k ns) ≡ Some r
         → (place_from (suc p) list k ns ≡ Some r
         → (q : ℕ) × (i : Inst) × ElementAt list q i × (i.act ≡ k) × (i.idx ≡ ns)
         × (r ≡ suc p + q))

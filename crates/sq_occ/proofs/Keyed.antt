@@ -1,6 +1,6 @@
 -- The arguments of an application as the program counts them.
 use Rattle.std.proofs.Common.{◌≡◌, ◌≢◌, refl, ap, ℕ, List, [], ◌∷◌, length, Bool, false}
-use Rattle.std.proofs.Common.{cond}
+use Rattle.std.proofs.Common.{if◌then◌else◌}
 use Rattle.std.specs.Prelude.{None}
 use Rattle.sq_term.specs.declared.signature.FunRole.{FunRole}
 use Rattle.sq_term.specs.declared.term.Term.{Term}
@@ -21,7 +21,7 @@ pub keyed-role : (n : ℕ) (left : Bool) (role : FunRole) (ts : List Term) → i
 keyed-role n left role [] h = refl
 keyed-role n left role (x ∷ []) h = refl
 keyed-role n left role (x ∷ k ∷ []) h =
-    ap (λ b. cond b (named n left (term_tree k)) None) h
+    ap (λ b. (if b then named n left (term_tree k) else None)) h
 keyed-role n left role (x ∷ k ∷ y ∷ ts) h = refl
 
 pub only-count : (n : ℕ) (left : Bool) (role : FunRole) (ts : List Term) → length ts ≢ 1
@@ -33,7 +33,7 @@ only-count n left role (x ∷ k ∷ ts) h = refl
 pub only-role : (n : ℕ) (left : Bool) (role : FunRole) (ts : List Term) → is_pk role ≡ false
     → only n left role (term_trees ts) ≡ None
 only-role n left role [] h = refl
-only-role n left role (k ∷ []) h = ap (λ b. cond b (named n left (term_tree k)) None) h
+only-role n left role (k ∷ []) h = ap (λ b. (if b then named n left (term_tree k) else None)) h
 only-role n left role (x ∷ k ∷ ts) h = refl
 
 pub ruleset keyed_rules = (tree_rules, keyed-count, keyed-role, only-count, only-role)

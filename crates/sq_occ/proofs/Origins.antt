@@ -1,7 +1,7 @@
 -- Where an entry of a walk comes from: a place in the term itself, whose message is walked too by a
 -- walk for any other name; or one macro of the term.
 use Rattle.std.proofs.Common.{◌≡◌, refl, sym, subst, ℕ, zero, suc, ◌⊎◌, inl, inr, ⊎_elim, List, []}
-use Rattle.std.proofs.Common.{◌∷◌, ◌++◌, Bool, true, false, cond, ◌&&◌, ◌==◌}
+use Rattle.std.proofs.Common.{◌∷◌, ◌++◌, Bool, true, false, if◌then◌else◌, ◌&&◌, ◌==◌}
 use Rattle.sq_base.specs.declared.sort.Sort.{Sort}
 use Rattle.sq_base.specs.declared.sort.Sort.TheVariants.{Index}
 use Rattle.sq_term.specs.declared.model.Value.{Value}
@@ -82,7 +82,7 @@ module _ (funs : List FunDecl) (k n : ℕ) (Mk Mn : List Sort → Macro → TsTr
   AllAround b ts = (es : List Value) → Fits w b es → AllAtPlaces w P S es ts
 
   bare_origin : (c : Bool) (is : List Idx) (b : List Sort) (vs : List OccTree) (u : OccTree)
-      → Member (cond c (place k is bare b ∷ []) []) u → Origin vs u
+      → Member (if c then place k is bare b ∷ [] else []) u → Origin vs u
   bare_origin true is b vs u here = inl (each_none (Member vs), λ es f. tt)
   bare_origin true is b vs u (there i) = elim i [ ]
   bare_origin false is b vs u i = elim i [ ]
@@ -111,17 +111,16 @@ module _ (funs : List FunDecl) (k n : ℕ) (Mk Mn : List Sort → Macro → TsTr
         at (is_keyed (function_role funs f) && is_keyed_by n (cons m ts))
       where
         at : (c : Bool)
-            → Member (cond c
-            (place n (second_args (cons m ts))
-            (key f m (s && is_hash (function_role funs f))) b ∷ for_name b false m)
-            (cond (is_pk (function_role funs f) && is_only_name n (cons m ts))
-            (place n (first_args (cons m ts)) public b ∷ [])
-            (walk_all funs n Mn (λ b i. []) b (is_equality f) (cons m ts)))) x
+            → Member (if c then place n (second_args (cons m ts))
+            (key f m (s && is_hash (function_role funs f))) b ∷ for_name b false m
+            else (if is_pk (function_role funs f) && is_only_name n (cons m ts)
+            then place n (first_args (cons m ts)) public b ∷ []
+            else walk_all funs n Mn (λ b i. []) b (is_equality f) (cons m ts))) x
         at true = there i
         at false =
-            subst (λ c. Member (cond (c && is_only_name n (cons m ts))
-            (place n (first_args (cons m ts)) public b ∷ [])
-            (walk_all funs n Mn (λ b i. []) b (is_equality f) (cons m ts))) x)
+            subst (λ c. Member (if c && is_only_name n (cons m ts)
+            then place n (first_args (cons m ts)) public b ∷ []
+            else walk_all funs n Mn (λ b i. []) b (is_equality f) (cons m ts)) x)
             (sym (keyed_not_pk (function_role funs f) e))
             (member-append_left (for_name b (is_equality f) m) _ x
             (subst (λ c. Member (for_name b c m) x) (sym (keyed_not_equality funs f e)) i))
@@ -139,8 +138,8 @@ module _ (funs : List FunDecl) (k n : ℕ) (Mk Mn : List Sort → Macro → TsTr
     one_origin : (c d : Bool) (x : TermTree) (u : OccTree) → is_name n x ≡ d
         → (Member (for_key b (is_equality f) x) u → Origin (for_name b (is_equality f) x) u)
         → Member (for_key b (is_equality f) x ++ []) u
-        → Origin (cond (c && d) (place n (name_args x) public b ∷ [])
-        (for_name b (is_equality f) x ++ [])) u
+        → Origin (if c && d then place n (name_args x) public b ∷ []
+        else (for_name b (is_equality f) x ++ [])) u
     one_origin true true x u e ih i =
         name_origin x b (is_equality f) _ u e (member-only (for_key b (is_equality f) x) u i)
     one_origin true false x u e ih i =
@@ -168,8 +167,8 @@ module _ (funs : List FunDecl) (k n : ℕ) (Mk Mn : List Sort → Macro → TsTr
         → (Member (for_key b (is_equality f) m) u → Origin (for_name b (is_equality f) m) u)
         → (Member (for_key b (is_equality f) x) u → Origin (for_name b (is_equality f) x) u)
         → Member (for_key b (is_equality f) m ++ (for_key b (is_equality f) x ++ [])) u
-        → Origin (cond (c && d) (place n (name_args x) role b ∷ for_name b false m)
-        (for_name b (is_equality f) m ++ (for_name b (is_equality f) x ++ []))) u
+        → Origin (if c && d then place n (name_args x) role b ∷ for_name b false m
+        else (for_name b (is_equality f) m ++ (for_name b (is_equality f) x ++ []))) u
     two_origin true true role m x u ec ed hm hx i =
         ⊎_elim
         (λ j. origin_more _ _ u
@@ -188,13 +187,14 @@ module _ (funs : List FunDecl) (k n : ℕ) (Mk Mn : List Sort → Macro → TsTr
   under b o body h [] f = absurd f
   under b o body h (x ∷ es) f = h es f.1 x f.0
 
-  no_key : (c : Bool) (vs ws zs : List OccTree) (u : OccTree) → Member (cond (c && false) vs ws) u
+  no_key : (c : Bool) (vs ws zs : List OccTree) (u : OccTree)
+      → Member (if c && false then vs else ws) u
       → (Member ws u → Origin zs u) → Origin zs u
   no_key true vs ws zs u i h = h i
   no_key false vs ws zs u i h = h i
 
   no_other : (c d : Bool) (vs ws zs : List OccTree) (u : OccTree) → Origin zs u
-      → Origin (cond (c && false) vs (cond (d && false) ws zs)) u
+      → Origin (if c && false then vs else (if d && false then ws else zs)) u
   no_other true true vs ws zs u h = h
   no_other true false vs ws zs u h = h
   no_other false true vs ws zs u h = h
@@ -206,9 +206,9 @@ module _ (funs : List FunDecl) (k n : ℕ) (Mk Mn : List Sort → Macro → TsTr
       → (Member (walk_first funs k Mk (λ b i. []) b ts) u
       → Origin (walk_first funs n Mn (λ b i. []) b ts) u)
       → (Member rest u → Origin (for_name b s' (fun f is ts)) u)
-      → Member (cond c
-      (place k (second_args ts) (key f (first_term ts) (s && is_hash (function_role funs f))) b
-      ∷ walk_first funs k Mk (λ b i. []) b ts) rest) u
+      → Member (if c then place k (second_args ts)
+      (key f (first_term ts) (s && is_hash (function_role funs f))) b
+      ∷ walk_first funs k Mk (λ b i. []) b ts else rest) u
       → Origin (for_name b s' (fun f is ts)) u
   keyed_at f is b s s' ts u true rest e h hf hr here =
       let p = both_true f is b s' (is_keyed (function_role funs f)) (is_keyed_by k ts) e in
@@ -224,7 +224,7 @@ module _ (funs : List FunDecl) (k n : ℕ) (Mk Mn : List Sort → Macro → TsTr
   keyed_at f is b s s' ts u false rest e h hf hr i = hr i
 
   only_at : (c : Bool) (is : List Idx) (b : List Sort) (rest vs : List OccTree) (u : OccTree)
-      → (Member rest u → Origin vs u) → Member (cond c (place k is public b ∷ []) rest) u
+      → (Member rest u → Origin vs u) → Member (if c then place k is public b ∷ [] else rest) u
       → Origin vs u
   only_at true is b rest vs u h i = public_origin is b vs u i
   only_at false is b rest vs u h i = h i
@@ -301,7 +301,7 @@ module _ (funs : List FunDecl) (k n : ℕ) (Mk Mn : List Sort → Macro → TsTr
         (λ j. origin x b (is_equality f) (is_equality f) u (λ es g. (h es g).0) j) i)
       where
         at : (c : Bool) (vs ws : List OccTree) → Origin ws u
-            → Origin (cond (c && false) vs ws) u
+            → Origin (if c && false then vs else ws) u
         at true vs ws o = o
         at false vs ws o = o
     args_origin f is (cons m (cons x nil)) b s' u h i =
@@ -311,8 +311,8 @@ module _ (funs : List FunDecl) (k n : ℕ) (Mk Mn : List Sort → Macro → TsTr
         (λ j. origin m b (is_equality f) (is_equality f) u (λ es g. (h es g).0) j)
         (λ j. origin x b (is_equality f) (is_equality f) u (λ es g. (h es g).1.0) j) i)
       where
-        at : (c d p : Bool) (vs ws zs : List OccTree) → Origin (cond (c && d) vs zs) u
-            → Origin (cond (c && d) vs (cond (p && false) ws zs)) u
+        at : (c d p : Bool) (vs ws zs : List OccTree) → Origin (if c && d then vs else zs) u
+            → Origin (if c && d then vs else (if p && false then ws else zs)) u
         at c d true vs ws zs o = o
         at c d false vs ws zs o = o
     args_origin f is (cons m (cons x (cons y ts))) b s' u h i =

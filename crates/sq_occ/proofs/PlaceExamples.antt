@@ -1,6 +1,6 @@
 -- Places under binders, in roles, at macros and on sides, and why there is no list, by computation.
 use Rattle.std.proofs.Common.{◌≡◌, refl, ap, ℕ, zero, suc, ◌*◌, ◌≤◌, List, [], ◌∷◌, ◌++◌, replicate}
-use Rattle.std.proofs.Common.{true, false, cond, nat_le, arith}
+use Rattle.std.proofs.Common.{true, false, if◌then◌else◌, nat_le, arith}
 use Rattle.std.proofs.lemmas.Bool.Decides.{nat_tests}
 use Rattle.std.specs.Prelude.{Ok, Err}
 use Rattle.sq_base.specs.declared.sort.Sort.{Sort}
@@ -90,7 +90,8 @@ two_quantifiers : places funs nothing 0 Left
     ≡ plain (Bound 0 ∷ []) bare (Index ∷ Timestamp ∷ []) ∷ []
 two_quantifiers = refl
 
--- the action's index is bound around a find of two indices; what is found is seen below them, what is
+-- the action's index is bound around a find of two indices; what is found is seen below them, what
+-- is
 -- else is not
 abbrev finds : SystemTree
 finds = record {
@@ -201,11 +202,11 @@ just_within : (n : ℕ) → n ≤ 2796202 → within_nodes (replicate n one) ≡
 just_within n h =
     let nodes : list_nodes (replicate n one) ≡ n * 3 = many n in
     let fits : nat_le (list_nodes (replicate n one)) 8388608 ≡ true = grind (arith, nat_tests) in
-    ap (λ b. cond b (Ok (replicate n one)) (Err TooLarge)) fits
+    ap (λ b. (if b then Ok (replicate n one) else Err TooLarge)) fits
 
 just_past : (n : ℕ) → 2796203 ≤ n → within_nodes (replicate n one) ≡ Err TooLarge
 just_past n h =
     let nodes : list_nodes (replicate n one) ≡ n * 3 = many n in
     let passes : nat_le (list_nodes (replicate n one)) 8388608 ≡ false =
     grind (arith, nat_tests) in
-    ap (λ b. cond b (Ok (replicate n one)) (Err TooLarge)) passes
+    ap (λ b. (if b then Ok (replicate n one) else Err TooLarge)) passes

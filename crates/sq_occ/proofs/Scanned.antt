@@ -1,7 +1,7 @@
 -- What holds of each place that a walk of the program adds, and what it has where the term reads a
 -- macro.
 use Rattle.std.proofs.Common.{◌≡◌, refl, sym, ap, ◌∙◌, subst, ℕ, ◌+◌, ◌≤◌, List, [], ◌∷◌}
-use Rattle.std.proofs.Common.{◌++◌, Bool, true, false, cond, ◌&&◌, ◌||◌, ◌==◌, Option}
+use Rattle.std.proofs.Common.{◌++◌, Bool, true, false, if◌then◌else◌, ◌&&◌, ◌||◌, ◌==◌, Option}
 use Rattle.std.proofs.Common.{Some, None, arith, append_assoc}
 use Rattle.sq_base.specs.declared.sort.Sort.{Sort}
 use Rattle.sq_term.specs.declared.signature.FunRole.{FunRole}
@@ -20,7 +20,7 @@ use Rattle.sq_occ.specs.Calls.Scans.{Scan, named, keyed, only, at_name, reads_ma
 use Rattle.sq_occ.specs.Calls.Scans.{scanned, key_of, key_role, scan, scan_first, scan_all}
 
 each_cond : {A : Type 0} (P : A → Type 0) (b : Bool) (xs ys : List A) → Each P xs → Each P ys
-    → Each P (cond b xs ys)
+    → Each P (if b then xs else ys)
 each_cond P true xs ys h k = h
 each_cond P false xs ys h k = k
 
@@ -141,15 +141,15 @@ module _ (S : Scan) where
       at : (l : Bool) → S.left ≡ l
           → (named S.name S.left x ≡ Some is → reads_macro S.left x ≡ false)
           → (named S.name S.left y ≡ Some is → reads_macro S.left y ≡ false)
-          → cond S.left (reads_macro S.left x) (reads_macro S.left y) ≡ false
+          → (if S.left then reads_macro S.left x else reads_macro S.left y) ≡ false
       at true f hx hy =
           let here : named S.name S.left x ≡ Some is =
-          sym (ap (λ c. cond c (named S.name S.left x) (named S.name S.left y)) f) ∙ e in
-          ap (λ c. cond c (reads_macro S.left x) (reads_macro S.left y)) f ∙ hx here
+          sym (ap (λ c. (if c then named S.name S.left x else named S.name S.left y)) f) ∙ e in
+          ap (λ c. (if c then reads_macro S.left x else reads_macro S.left y)) f ∙ hx here
       at false f hx hy =
           let here : named S.name S.left y ≡ Some is =
-          sym (ap (λ c. cond c (named S.name S.left x) (named S.name S.left y)) f) ∙ e in
-          ap (λ c. cond c (reads_macro S.left x) (reads_macro S.left y)) f ∙ hy here
+          sym (ap (λ c. (if c then named S.name S.left x else named S.name S.left y)) f) ∙ e in
+          ap (λ c. (if c then reads_macro S.left x else reads_macro S.left y)) f ∙ hy here
   named_none (fun f js ts) is e = absurd (differ e)
     where
       differ : None ≡ Some is → ⊥
@@ -176,7 +176,8 @@ module _ (S : Scan) where
       differ : None ≡ Some is → ⊥
       differ q = cc
 
-  when_some : {A : Type 0} (b : Bool) (o : Option A) (x : A) → cond b o None ≡ Some x → o ≡ Some x
+  when_some : {A : Type 0} (b : Bool) (o : Option A) (x : A) → (if b then o else None) ≡ Some x → o
+      ≡ Some x
   when_some true o x e = e
   when_some false o x e = absurd (differ e)
     where
@@ -264,18 +265,18 @@ module _ (S : Scan) where
         at : (l : Bool) → S.left ≡ l
             → (reads_macro S.left x ≡ true → HasMacro S (scan S b e x))
             → (reads_macro S.left y ≡ true → HasMacro S (scan S b e y))
-            → HasMacro S (cond S.left (scan S b e x) (scan S b e y))
+            → HasMacro S (if S.left then scan S b e x else scan S b e y)
         at true f hx hy =
             let here : reads_macro S.left x ≡ true =
-            sym (ap (λ c. cond c (reads_macro S.left x) (reads_macro S.left y)) f) ∙ h in
-            let same : scan S b e x ≡ cond S.left (scan S b e x) (scan S b e y) =
-            sym (ap (λ c. cond c (scan S b e x) (scan S b e y)) f) in
+            sym (ap (λ c. (if c then reads_macro S.left x else reads_macro S.left y)) f) ∙ h in
+            let same : scan S b e x ≡ (if S.left then scan S b e x else scan S b e y) =
+            sym (ap (λ c. (if c then scan S b e x else scan S b e y)) f) in
             subst (HasMacro S) same (hx here)
         at false f hx hy =
             let here : reads_macro S.left y ≡ true =
-            sym (ap (λ c. cond c (reads_macro S.left x) (reads_macro S.left y)) f) ∙ h in
-            let same : scan S b e y ≡ cond S.left (scan S b e x) (scan S b e y) =
-            sym (ap (λ c. cond c (scan S b e x) (scan S b e y)) f) in
+            sym (ap (λ c. (if c then reads_macro S.left x else reads_macro S.left y)) f) ∙ h in
+            let same : scan S b e y ≡ (if S.left then scan S b e x else scan S b e y) =
+            sym (ap (λ c. (if c then scan S b e x else scan S b e y)) f) in
             subst (HasMacro S) same (hy here)
     macro_part (le t s) b e h = absurd (let x : false ≡ true = h in cc)
     macro_part (ts_eq t s) b e h = absurd (let x : false ≡ true = h in cc)

@@ -1,6 +1,6 @@
 -- The walk as the program takes it lists what the definition lists.
 use Rattle.std.proofs.Common.{◌≡◌, refl, sym, ap, ◌∙◌, subst, ℕ, ◌+◌, List, [], ◌∷◌}
-use Rattle.std.proofs.Common.{◌++◌, map, length, Bool, true, false, cond, ◌&&◌, ◌==◌}
+use Rattle.std.proofs.Common.{◌++◌, map, length, Bool, true, false, if◌then◌else◌, ◌&&◌, ◌==◌}
 use Rattle.std.proofs.Common.{Option, Some, None, arith}
 use Rattle.sq_base.specs.declared.sort.Sort.{Sort}
 use Rattle.sq_term.specs.declared.signature.FunRole.{FunRole}
@@ -33,12 +33,13 @@ bound_place r u = record u {
   role = bound_role r (length u.bound) u.role;
 }
 
-pub map-append : {A B : Type 0} (f : A → B) (xs ys : List A) → map f (xs ++ ys) ≡ map f xs ++ map f ys
+pub map-append : {A B : Type 0} (f : A → B) (xs ys : List A) → map f (xs ++ ys) ≡ map f xs
+    ++ map f ys
 map-append f [] ys = refl
 map-append f (x ∷ xs) ys = ap (λ zs. f x ∷ zs) (map-append f xs ys)
 
-map-cond : {A B : Type 0} (f : A → B) (b : Bool) (xs ys : List A) → map f (cond b xs ys)
-    ≡ cond b (map f xs) (map f ys)
+map-cond : {A B : Type 0} (f : A → B) (b : Bool) (xs ys : List A) → map f (if b then xs else ys)
+    ≡ (if b then map f xs else map f ys)
 map-cond f true xs ys = refl
 map-cond f false xs ys = refl
 
@@ -119,32 +120,34 @@ module _ (S : Scan) (M : List Sort → Macro → TsTree → List OccTree)
   -- the name on the side that is read
   named_is : (k : TermTree) (m : ℕ)
       → named S.name S.left k
-      ≡ cond (is_name S.name (P m k)) (Some (name_args (P m k))) None
+      ≡ (if is_name S.name (P m k) then Some (name_args (P m k)) else None)
   named_is (name k is) m =
-      ap (λ js. cond (k == S.name) (Some js) None) (sym (map_same_indices is))
+      ap (λ js. (if k == S.name then Some js else None)) (sym (map_same_indices is))
   named_is (diff x y) m = at S.left refl (named_is x m) (named_is y m)
     where
       at : (l : Bool) → S.left ≡ l
           → named S.name S.left x
-          ≡ cond (is_name S.name (P m x)) (Some (name_args (P m x))) None
+          ≡ (if is_name S.name (P m x) then Some (name_args (P m x)) else None)
           → named S.name S.left y
-          ≡ cond (is_name S.name (P m y)) (Some (name_args (P m y))) None
-          → cond S.left (named S.name S.left x) (named S.name S.left y)
-          ≡ cond (is_name S.name (P m (diff x y))) (Some (name_args (P m (diff x y)))) None
+          ≡ (if is_name S.name (P m y) then Some (name_args (P m y)) else None)
+          → (if S.left then named S.name S.left x else named S.name S.left y)
+          ≡ (if is_name S.name (P m (diff x y)) then Some (name_args (P m (diff x y))) else None)
       at true e hx hy =
-          let left : cond S.left (named S.name S.left x) (named S.name S.left y)
-          ≡ named S.name S.left x = ap (λ b. cond b (named S.name S.left x) (named S.name S.left y)) e in
+          let left : (if S.left then named S.name S.left x else named S.name S.left y)
+          ≡ named S.name S.left x =
+          ap (λ b. (if b then named S.name S.left x else named S.name S.left y)) e in
           let side : on_side (side_of S.left) (P m x) (P m y) ≡ P m x =
           ap (λ b. on_side (side_of b) (P m x) (P m y)) e in
           left ∙ (hx
-          ∙ ap (λ t. cond (is_name S.name t) (Some (name_args t)) None) (sym side))
+          ∙ ap (λ t. (if is_name S.name t then Some (name_args t) else None)) (sym side))
       at false e hx hy =
-          let right : cond S.left (named S.name S.left x) (named S.name S.left y)
-          ≡ named S.name S.left y = ap (λ b. cond b (named S.name S.left x) (named S.name S.left y)) e in
+          let right : (if S.left then named S.name S.left x else named S.name S.left y)
+          ≡ named S.name S.left y =
+          ap (λ b. (if b then named S.name S.left x else named S.name S.left y)) e in
           let side : on_side (side_of S.left) (P m x) (P m y) ≡ P m y =
           ap (λ b. on_side (side_of b) (P m x) (P m y)) e in
           right ∙ (hy
-          ∙ ap (λ t. cond (is_name S.name t) (Some (name_args t)) None) (sym side))
+          ∙ ap (λ t. (if is_name S.name t then Some (name_args t) else None)) (sym side))
   named_is (fun f is ts) m = refl
   named_is (macro x t) m = refl
   named_is (schema k) m = refl
@@ -156,18 +159,19 @@ module _ (S : Scan) (M : List Sort → Macro → TsTree → List OccTree)
   named_is (some s t) m = refl
   named_is (find c t a b) m = refl
 
-  no_case : {A : Type 0} (K : Bool) (x : A) → None ≡ cond (K && false) (Some x) None
+  no_case : {A : Type 0} (K : Bool) (x : A) → None ≡ (if K && false then Some x else None)
   no_case true x = refl
   no_case false x = refl
 
-  one_case : {A : Type 0} (K N : Bool) (x : A) (o : Option A) → o ≡ cond N (Some x) None
-      → cond K o None ≡ cond (K && N) (Some x) None
+  one_case : {A : Type 0} (K N : Bool) (x : A) (o : Option A) → o ≡ (if N then Some x else None)
+      → (if K then o else None) ≡ (if K && N then Some x else None)
   one_case true N x o e = e
   one_case false N x o e = refl
 
   keyed_is : (role : FunRole) (ts : TermTrees) (m : ℕ)
       → keyed S.name S.left role ts
-      ≡ cond (is_keyed role && is_keyed_by S.name (Ps m ts)) (Some (second_args (Ps m ts))) None
+      ≡ (if is_keyed role && is_keyed_by S.name (Ps m ts) then Some (second_args (Ps m ts))
+      else None)
   keyed_is role nil m = no_case (is_keyed role) []
   keyed_is role (cons x nil) m = no_case (is_keyed role) []
   keyed_is role (cons x (cons k nil)) m =
@@ -176,15 +180,15 @@ module _ (S : Scan) (M : List Sort → Macro → TsTree → List OccTree)
 
   only_is : (role : FunRole) (ts : TermTrees) (m : ℕ)
       → only S.name S.left role ts
-      ≡ cond (is_pk role && is_only_name S.name (Ps m ts)) (Some (first_args (Ps m ts))) None
+      ≡ (if is_pk role && is_only_name S.name (Ps m ts) then Some (first_args (Ps m ts)) else None)
   only_is role nil m = no_case (is_pk role) []
   only_is role (cons k nil) m =
       one_case (is_pk role) (is_name S.name (P m k)) (name_args (P m k)) _ (named_is k m)
   only_is role (cons x (cons k ts)) m = no_case (is_pk role) (name_args (P m x))
 
   at_name-cond : (b : Bool) (is : List Idx) (f : List Idx → List OccTree) (rest : List OccTree)
-      (o : Option (List Idx)) → o ≡ cond b (Some is) None
-      → at_name o f rest ≡ cond b (f is) rest
+      (o : Option (List Idx)) → o ≡ (if b then Some is else None)
+      → at_name o f rest ≡ (if b then f is else rest)
   at_name-cond true is f rest o e = ap (λ p. at_name p f rest) e
   at_name-cond false is f rest o e = ap (λ p. at_name p f rest) e
 
@@ -199,7 +203,7 @@ module _ (S : Scan) (M : List Sort → Macro → TsTree → List OccTree)
   head_same b x y xs ys e f = cc (e, f)
 
   cond_same : {A : Type 0} (b : Bool) (x y x' y' : A) → x ≡ x' → y ≡ y'
-      → cond b x y ≡ cond b x' y'
+      → (if b then x else y) ≡ (if b then x' else y')
   cond_same true x y x' y' e f = e
   cond_same false x y x' y' e f = f
 
@@ -255,17 +259,19 @@ module _ (S : Scan) (M : List Sort → Macro → TsTree → List OccTree)
         at : (l : Bool) → S.left ≡ l
             → scan S b equated x ≡ bind (walked b equated (P m x))
             → scan S b equated y ≡ bind (walked b equated (P m y))
-            → cond S.left (scan S b equated x) (scan S b equated y)
+            → (if S.left then scan S b equated x else scan S b equated y)
             ≡ bind (walked b equated (P m (diff x y)))
         at true f hx hy =
-            let left : cond S.left (scan S b equated x) (scan S b equated y)
-            ≡ scan S b equated x = ap (λ c. cond c (scan S b equated x) (scan S b equated y)) f in
+            let left : (if S.left then scan S b equated x else scan S b equated y)
+            ≡ scan S b equated x = ap (λ c. (if c then scan S b equated x else scan S b equated y))
+            f in
             let side : on_side (side_of S.left) (P m x) (P m y) ≡ P m x =
             ap (λ c. on_side (side_of c) (P m x) (P m y)) f in
             left ∙ (hx ∙ ap (λ t. bind (walked b equated t)) (sym side))
         at false f hx hy =
-            let right : cond S.left (scan S b equated x) (scan S b equated y)
-            ≡ scan S b equated y = ap (λ c. cond c (scan S b equated x) (scan S b equated y)) f in
+            let right : (if S.left then scan S b equated x else scan S b equated y)
+            ≡ scan S b equated y = ap (λ c. (if c then scan S b equated x else scan S b equated y))
+            f in
             let side : on_side (side_of S.left) (P m x) (P m y) ≡ P m y =
             ap (λ c. on_side (side_of c) (P m x) (P m y)) f in
             right ∙ (hy ∙ ap (λ t. bind (walked b equated t)) (sym side))

@@ -1,7 +1,8 @@
 -- What stands in an entry of a body speaks of the action's indices and of the binders above it
 -- alone.
 use Rattle.std.proofs.Common.{◌≡◌, refl, sym, ap, ◌∙◌, subst, ℕ, zero, suc, ◌+◌, ◌<◌, List, [], ◌∷◌}
-use Rattle.std.proofs.Common.{◌++◌, length, map, replicate, Bool, true, false, cond, ◌&&◌, ◌==◌}
+use Rattle.std.proofs.Common.{◌++◌, length, map, replicate, Bool, true, false, if◌then◌else◌, ◌&&◌}
+use Rattle.std.proofs.Common.{◌==◌}
 use Rattle.std.proofs.Common.{nat_lt, arith, length-append, slice_get}
 use Rattle.std.proofs.lemmas.Bool.Decides.{nat_tests}
 use Rattle.sq_base.specs.declared.sort.Sort.{Sort}
@@ -174,7 +175,7 @@ with_indices-length zero b = omega arith
 with_indices-length (suc c) b = with_indices-length c (Index ∷ b) ∙ omega arith
 
 each_if : {A : Type 0} (c : Bool) (P : A → Type 0) (xs ys : List A) → Each P xs → Each P ys
-    → Each P (cond c xs ys)
+    → Each P (if c then xs else ys)
 each_if true P xs ys h k = h
 each_if false P xs ys h k = k
 
@@ -231,9 +232,9 @@ module _ (T : Tests) where
           let role : RoleTree = key f (first_term ts) (side && is_hash (function_role funs f)) in
           each_if (is_keyed (function_role funs f) && is_keyed_by n ts) EntryPasses
           (place n (second_args ts) role b ∷ walk_first funs n (λ b m t. []) (λ b k. []) b ts)
-          (cond (is_pk (function_role funs f) && is_only_name n ts)
-          (place n (first_args ts) public b ∷ [])
-          (walk_all funs n (λ b m t. []) (λ b k. []) b (is_equality f) ts))
+          (if is_pk (function_role funs f) && is_only_name n ts
+          then place n (first_args ts) public b ∷ []
+          else walk_all funs n (λ b m t. []) (λ b k. []) b (is_equality f) ts)
           (each_cons (place n (second_args ts) role b) _ EntryPasses
           (at_depth b m (second_args ts) role e (second_args-pass m ts p.1)
           (first_term-passes m ts p.1))

@@ -1,7 +1,7 @@
 -- The values of binders around a body, and of what stands under them.
 use Rattle.std.proofs.Common.{◌≡◌, refl, sym, ap, ◌∙◌, subst, ℕ, zero, suc, ◌+◌, ◌-◌, ◌<◌, ◌≤◌, ◌⊎◌}
 use Rattle.std.proofs.Common.{⊎_elim, List, [], ◌∷◌, ◌++◌, length, map, get_or, Bool, true, false}
-use Rattle.std.proofs.Common.{cond, nat_lt, arith, Some, None}
+use Rattle.std.proofs.Common.{if◌then◌else◌, nat_lt, arith, Some, None}
 use Rattle.std.proofs.lemmas.Bool.Decides.{nat_tests}
 use Rattle.sq_base.specs.declared.sort.Sort.{Sort}
 use Rattle.sq_base.specs.declared.sort.Sort.TheVariants.{Index}
@@ -116,7 +116,7 @@ module _ (w : World) (i : Inst) (a : Assignment) where
       ap number_of (h.numbers k (lesser k (length i.idx) e)) in
       own_number i.idx k
       ∙ (sym at
-      ∙ ap (λ b. idx_value a cs (cond b (Bound (m + (length i.idx - suc k))) (Free k))) (sym e))
+      ∙ ap (λ b. idx_value a cs (if b then Bound (m + (length i.idx - suc k)) else Free k)) (sym e))
   bound_value m bs cs (Bound k) h e = ap number_of (h.below k (lesser k m e))
 
   pub bound_values : (m : ℕ) (bs cs : List Value) (js : List Idx) → Around i.idx m bs cs
@@ -266,13 +266,13 @@ place_found p [] q i h = absurd h
 place_found p (x ∷ list) zero i h =
     let itself : is_instance i.act i.idx x ≡ true =
     subst (λ y. is_instance i.act i.idx y ≡ true) (sym h) (is_instance_itself i) in
-    (p, ap (λ b. cond b (Some p) (place_from (suc p) list i.act i.idx)) itself, omega arith)
+    (p, ap (λ b. (if b then Some p else place_from (suc p) list i.act i.idx)) itself, omega arith)
 place_found p (x ∷ list) (suc q) i h =
     first_or (is_instance i.act i.idx x) (place_found (suc p) list q i h)
   where
     first_or : (b : Bool)
         → (r : ℕ) × (place_from (suc p) list i.act i.idx ≡ Some r) × (r ≤ suc p + q)
-        → (r : ℕ) × (cond b (Some p) (place_from (suc p) list i.act i.idx) ≡ Some r)
+        → (r : ℕ) × ((if b then Some p else place_from (suc p) list i.act i.idx) ≡ Some r)
         × (r ≤ p + suc q)
     first_or true f = (p, refl, omega arith)
     first_or false f = (f.0, f.1, omega arith)

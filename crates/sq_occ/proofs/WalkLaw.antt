@@ -1,6 +1,6 @@
 -- Each occurrence in a term's translation is that of an entry of the walk.
 use Rattle.std.proofs.Common.{◌≡◌, refl, sym, ap, subst, ℕ, ◌⊎◌, inl, inr, ⊎_elim, List, [], ◌∷◌}
-use Rattle.std.proofs.Common.{◌++◌, Bool, true, false, cond, ◌&&◌, ◌==◌, get_or}
+use Rattle.std.proofs.Common.{◌++◌, Bool, true, false, if◌then◌else◌, ◌&&◌, ◌==◌, get_or}
 use Rattle.sq_base.specs.declared.sort.Sort.{Sort}
 use Rattle.sq_term.specs.declared.model.Value.{Value}
 use Rattle.sq_term.specs.declared.signature.FunDecl.{FunDecl}
@@ -117,20 +117,19 @@ module _ (funs : List FunDecl) (n : ℕ) (js : List ℕ) (w : World) (a : Assign
         (mono : s ≡ true → t ≡ true) where
       abbrev ground_uses : Bool → Bool → TermTrees → List Role
       ground_uses keyed only ts =
-          cond keyed
-          (ground.key f (first_of_all (translate_all w a es ts))
+          (if keyed then ground.key f (first_of_all (translate_all w a es ts))
           (t && is_hash (function_role funs f))
-          ∷ occurrences_in_first funs n js (translate_all w a es ts))
-          (cond only (ground.public ∷ [])
-          (occurrences_in_all funs n js (is_equality f) (translate_all w a es ts)))
+          ∷ occurrences_in_first funs n js (translate_all w a es ts)
+          else (if only then ground.public ∷ []
+          else occurrences_in_all funs n js (is_equality f) (translate_all w a es ts)))
 
       abbrev entries : Bool → Bool → TermTrees → List OccTree
       entries keyed only ts =
-          cond keyed
-          (place n (second_args ts) (key f (first_term ts) (s && is_hash (function_role funs f))) b
-          ∷ walk_first funs n at_macro at_schema b ts)
-          (cond only (place n (first_args ts) public b ∷ [])
-          (walk_all funs n at_macro at_schema b (is_equality f) ts))
+          (if keyed then place n (second_args ts)
+          (key f (first_term ts) (s && is_hash (function_role funs f))) b
+          ∷ walk_first funs n at_macro at_schema b ts
+          else (if only then place n (first_args ts) public b ∷ []
+          else walk_all funs n at_macro at_schema b (is_equality f) ts))
 
       abbrev All : TermTrees → Type 0
       All ts =
@@ -164,7 +163,7 @@ module _ (funs : List FunDecl) (n : ℕ) (js : List ℕ) (w : World) (a : Assign
           → Uses side (translate w a es u) ground.bare
       name_used u side g =
           subst (λ x. Uses side x ground.bare) (sym (ground_name_is n js (translate w a es u) g))
-          (subst (λ c. Member (cond c (ground.bare ∷ []) []) ground.bare)
+          (subst (λ c. Member (if c then ground.bare ∷ [] else []) ground.bare)
           (sym (name_itself n js)) here)
 
       -- a name with other numbers has no occurrence
@@ -178,8 +177,8 @@ module _ (funs : List FunDecl) (n : ℕ) (js : List ℕ) (w : World) (a : Assign
           subst (λ y. Uses side y r) x i in
           let g' : ground.is_name n js (named n (idx_values a es (name_args u))) ≡ false =
           subst (λ y. ground.is_name n js y ≡ false) x g in
-          let i'' : Member (cond false (ground.bare ∷ []) []) r =
-          subst (λ c. Member (cond c (ground.bare ∷ []) []) r) g' i' in
+          let i'' : Member (if false then ground.bare ∷ [] else []) r =
+          subst (λ c. Member (if c then ground.bare ∷ [] else []) r) g' i' in
           elim i'' [ ]
 
       one_case : (P G N : Bool) (u : TermTree) (r : Role)
@@ -288,7 +287,7 @@ module _ (funs : List FunDecl) (n : ℕ) (js : List ℕ) (w : World) (a : Assign
 
     one_side : (left side : Bool) (x y : Ground) (us vs : List OccTree) (r : Role)
         → (Uses side x r → Found r us) → (Uses side y r → Found r vs)
-        → Uses side (cond left x y) r → Found r (us ++ vs)
+        → Uses side (if left then x else y) r → Found r (us ++ vs)
     one_side true side x y us vs r f g i =
         found_more r us _ (λ z j. member-append_left us vs z j) (f i)
     one_side false side x y us vs r f g i =
@@ -296,12 +295,12 @@ module _ (funs : List FunDecl) (n : ℕ) (js : List ℕ) (w : World) (a : Assign
 
     at_name : (k : ℕ) (is : List Idx) (b : List Sort) (es : List Value) (side : Bool) (r : Role)
         → Fits w.times b es → Uses side (named k (idx_values a es is)) r
-        → Found r (cond (k == n) (place n is bare b ∷ []) [])
+        → Found r (if k == n then place n is bare b ∷ [] else [])
     at_name k is b es side r fit i = go (k == n) (same_numbers (idx_values a es is) js) refl i
       where
         go : (c d : Bool) → same_numbers (idx_values a es is) js ≡ d
-            → Member (cond (c && d) (ground.bare ∷ []) []) r
-            → Found r (cond c (place n is bare b ∷ []) [])
+            → Member (if c && d then ground.bare ∷ [] else []) r
+            → Found r (if c then place n is bare b ∷ [] else [])
         go true true e i = at_head is bare b es r [] fit (same_numbers-true _ js e) tt
         go true false e i = elim i [ ]
         go false d e i = elim i [ ]

@@ -1,4 +1,5 @@
--- What the walk lists at binders and at applications, by the lists that it adds one after the other.
+-- What the walk lists at binders and at applications, by the lists that it adds one after the
+-- other.
 use Rattle.std.proofs.Common.{◌≡◌, refl, sym, ap, ◌∙◌, subst, ℕ, List, [], ◌∷◌, ◌++◌, replicate}
 use Rattle.std.proofs.Common.{length, get_or, Bool, false, ◌&&◌, ◌==◌, Some, None, arith}
 use Rattle.std.proofs.lemmas.Bool.Decides.{nat_tests}

@@ -28,7 +28,8 @@ module _ (d : ℕ) where
     abbrev whole : Values definition → List Sign → Read SentenceTree
     whole vs q = bind (end q) (λ _ u. got (h vs) u)
 
-    body_ends : (m : Read ProcTree) → bind (bind m (λ t q. bind (read_row d [] q) (λ vs u. got (t, vs) u))) whole
+    body_ends : (m : Read ProcTree)
+        → bind (bind m (λ t q. bind (read_row d [] q) (λ vs u. got (t, vs) u))) whole
         ≡ bind (bind m (λ t q. bind (end q) (λ _ u. got t u))) (λ t u. got (h (t, tt)) u)
     unfolding read_row
     body_ends deep = refl
@@ -41,8 +42,11 @@ module _ (d : ℕ) where
     unfolding read_row
     definition_ends ts = by (eat (mark p.Equals) ts)
       where
-        by : (m : Read (Unit {0})) → bind (bind m (λ _ q. bind (parse_process d q) (λ t u. bind (read_row d [] u) (λ vs v. got (t, vs) v)))) whole
-            ≡ bind (bind m (λ _ q. bind (parse_process d q) (λ t u. bind (end u) (λ _ v. got t v)))) (λ t u. got (h (t, tt)) u)
+        by : (m : Read (Unit {0}))
+            → bind (bind m (λ _ q. bind (parse_process d q)
+            (λ t u. bind (read_row d [] u) (λ vs v. got (t, vs) v)))) whole
+            ≡ bind (bind m (λ _ q. bind (parse_process d q) (λ t u. bind (end u) (λ _ v. got t v))))
+            (λ t u. got (h (t, tt)) u)
         by deep = refl
         by none = refl
         by (got x q) = body_ends (parse_process d q)
@@ -51,29 +55,42 @@ module _ (d : ℕ) where
   unfolding read_row
   system_is ts = by (term.identifier ts)
     where
-      by : (m : Read (List ℕ)) → bind m (λ n q. bind (read_definition d q) (λ t u. got (sentence system (n, (t, tt))) u))
-          ≡ bind (bind m (λ n q. bind (read_row d definition q) (λ vs u. got (n, vs) u))) (λ vs q. bind (end q) (λ _ u. got (sentence system vs) u))
+      by : (m : Read (List ℕ))
+          → bind m (λ n q. bind (read_definition d q) (λ t u. got (sentence system (n, (t, tt))) u))
+          ≡ bind (bind m (λ n q. bind (read_row d definition q) (λ vs u. got (n, vs) u)))
+          (λ vs q. bind (end q) (λ _ u. got (sentence system vs) u))
       by deep = refl
       by none = refl
-      by (got n q) = sym (bind_twice (read_row d definition q) (λ vs u. got (n, vs) u) (λ vs u. bind (end u) (λ _ v. got (sentence system vs) v))
+      by (got n q) = sym (bind_twice (read_row d definition q) (λ vs u. got (n, vs) u)
+          (λ vs u. bind (end u) (λ _ v. got (sentence system vs) v))
           ∙ definition_ends (λ vs. sentence system (n, vs)) q)
 
   pub process_is : (ts : List Sign) → read_process d ts ≡ read_kind d process ts
   unfolding read_row
   process_is ts = by (term.identifier ts)
     where
-      behind : (n : List ℕ) (m : Read (Option (List Group))) → bind m (λ ps u. bind (read_definition d u) (λ t v. got (sentence process (n, (ps, (t, tt)))) v))
-          ≡ bind (bind (bind m (λ ps q. bind (read_row d definition q) (λ vs u. got (ps, vs) u))) (λ vs u. got (n, vs) u)) (λ vs q. bind (end q) (λ _ u. got (sentence process vs) u))
+      behind : (n : List ℕ) (m : Read (Option (List Group)))
+          → bind m (λ ps u. bind (read_definition d u)
+          (λ t v. got (sentence process (n, (ps, (t, tt)))) v))
+          ≡ bind (bind (bind m (λ ps q. bind (read_row d definition q) (λ vs u. got (ps, vs) u)))
+          (λ vs u. got (n, vs) u)) (λ vs q. bind (end q) (λ _ u. got (sentence process vs) u))
       behind n deep = refl
       behind n none = refl
       behind n (got ps q) =
           let row = read_row d definition q in
-          sym (bind_twice (bind row (λ vs u. got (ps, vs) u)) (λ vs u. got (n, vs) u) (λ vs u. bind (end u) (λ _ v. got (sentence process vs) v))
-          ∙ (bind_twice row (λ vs u. got (ps, vs) u) (λ vs u. bind (end u) (λ _ v. got (sentence process (n, vs)) v))
+          sym (bind_twice (bind row (λ vs u. got (ps, vs) u)) (λ vs u. got (n, vs) u)
+          (λ vs u. bind (end u) (λ _ v. got (sentence process vs) v))
+          ∙ (bind_twice row (λ vs u. got (ps, vs) u)
+          (λ vs u. bind (end u) (λ _ v. got (sentence process (n, vs)) v))
           ∙ definition_ends (λ vs. sentence process (n, (ps, vs))) q))
 
-      by : (m : Read (List ℕ)) → bind m (λ n q. bind (read_parameters q) (λ ps u. bind (read_definition d u) (λ t v. got (sentence process (n, (ps, (t, tt)))) v)))
-          ≡ bind (bind m (λ n q. bind (bind (read_parameters q) (λ ps u. bind (read_row d definition u) (λ vs v. got (ps, vs) v))) (λ vs u. got (n, vs) u))) (λ vs q. bind (end q) (λ _ u. got (sentence process vs) u))
+      by : (m : Read (List ℕ))
+          → bind m (λ n q. bind (read_parameters q)
+          (λ ps u. bind (read_definition d u) (λ t v. got (sentence process (n, (ps, (t, tt)))) v)))
+          ≡ bind (bind m (λ n q. bind
+          (bind (read_parameters q)
+          (λ ps u. bind (read_row d definition u) (λ vs v. got (ps, vs) v)))
+          (λ vs u. got (n, vs) u))) (λ vs q. bind (end q) (λ _ u. got (sentence process vs) u))
       by deep = refl
       by none = refl
       by (got n q) = behind n (read_parameters q)

@@ -7,10 +7,13 @@ use Rattle.sq_parse_term.specs.Parse.{Read, deep, none, got, bind, recover}
 use Rattle.sq_parse_term.proofs.Turns.{with_front, front_twice}
 use Rattle.sq_parse_file.specs.Read.{all_words, all_numbers, arrow, arrows_within}
 
-pub words_turn : (found : List (List ℕ)) (n : List ℕ) (q : List Sign) (m : Read (List (List ℕ))) → with_front found (all_words (word n ∷ q)) ≡ m → with_front (found ++ n ∷ []) (all_words q) ≡ m
+pub words_turn : (found : List (List ℕ)) (n : List ℕ) (q : List Sign) (m : Read (List (List ℕ)))
+    → with_front found (all_words (word n ∷ q)) ≡ m → with_front (found ++ n ∷ []) (all_words q) ≡ m
 words_turn found n q m e = sym (front_twice found (n ∷ []) (all_words q)) ∙ e
 
-pub numbers_turn : (found : List ℕ) (k : ℕ) (q : List Sign) (m : Read (List ℕ)) → with_front found (all_numbers (number k ∷ q)) ≡ m → with_front (found ++ k ∷ []) (all_numbers q) ≡ m
+pub numbers_turn : (found : List ℕ) (k : ℕ) (q : List Sign) (m : Read (List ℕ))
+    → with_front found (all_numbers (number k ∷ q)) ≡ m
+    → with_front (found ++ k ∷ []) (all_numbers q) ≡ m
 numbers_turn found k q m e = sym (front_twice found (k ∷ []) (all_numbers q)) ∙ e
 
 -- so many arrows before those that are read

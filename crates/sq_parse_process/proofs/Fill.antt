@@ -37,14 +37,20 @@ pub fill : (a b : ProcTree) → IsProcess a → IsProcess b → IsOpen a → Fil
 fill null b h g o = absurd o
 fill (new n a) b h g o =
     let t = fill a b h g o in
-    record { tree = new n t.tree; built = t.built; spelled_is = ap (λ z. reserved r.New ∷ word n ∷ mark p.Semicolon ∷ z) t.spelled_is }
+    record {
+      tree = new n t.tree;
+      built = t.built;
+      spelled_is =
+          ap (λ z. reserved r.New ∷ word n ∷ mark p.Semicolon ∷ z) t.spelled_is;
+    }
 fill (receive c x) b h g o = absurd o
 fill (receive_then c x a) b h g o =
     let t = fill a b h g o in
     record {
       tree = receive_then c x t.tree;
       built = t.built;
-      spelled_is = ap (λ z. reserved r.In ∷ mark p.OpenParenthesis ∷ word c ∷ mark p.Comma ∷ word x ∷ mark p.CloseParenthesis ∷ mark p.Semicolon ∷ z) t.spelled_is;
+      spelled_is = ap (λ z. reserved r.In ∷ mark p.OpenParenthesis ∷ word c ∷ mark p.Comma ∷ word x
+          ∷ mark p.CloseParenthesis ∷ mark p.Semicolon ∷ z) t.spelled_is;
     }
 fill (send c f) b h g o = absurd o
 fill (send_then c f a) b h g o =
@@ -54,19 +60,37 @@ fill (send_then c f a) b h g o =
       tree = send_then c f t.tree;
       built = (h.0, t.built);
       spelled_is =
-          ap (λ z. reserved r.Out ∷ mark p.OpenParenthesis ∷ word c ∷ mark p.Comma ∷ (spelled f ++ mark p.CloseParenthesis ∷ mark p.Semicolon ∷ z)) t.spelled_is
-          ∙ ap (λ z. reserved r.Out ∷ mark p.OpenParenthesis ∷ word c ∷ mark p.Comma ∷ z) (sym (append_assoc (spelled f) (mark p.CloseParenthesis ∷ mark p.Semicolon ∷ process_spelled a) else_b));
+          ap (λ z. reserved r.Out ∷ mark p.OpenParenthesis ∷ word c ∷ mark p.Comma
+          ∷ (spelled f ++ mark p.CloseParenthesis ∷ mark p.Semicolon ∷ z)) t.spelled_is
+          ∙ ap (λ z. reserved r.Out ∷ mark p.OpenParenthesis ∷ word c ∷ mark p.Comma ∷ z)
+          (sym (append_assoc (spelled f) (mark p.CloseParenthesis ∷ mark p.Semicolon
+          ∷ process_spelled a) else_b));
     }
 fill (branch f a) b h g o = by (open_or_not a) (λ i. fill a b h.1 g i)
   where
-    rejoin : process_spelled (branch f a) ++ reserved r.Else ∷ process_spelled b ≡ reserved r.If ∷ (spelled f ++ reserved r.Then ∷ (process_spelled a ++ reserved r.Else ∷ process_spelled b))
-    rejoin = ap (λ z. reserved r.If ∷ z) (append_assoc (spelled f) (reserved r.Then ∷ process_spelled a) (reserved r.Else ∷ process_spelled b))
+    rejoin : process_spelled (branch f a) ++ reserved r.Else ∷ process_spelled b ≡ reserved r.If
+        ∷ (spelled f ++ reserved r.Then
+        ∷ (process_spelled a ++ reserved r.Else ∷ process_spelled b))
+    rejoin = ap (λ z. reserved r.If ∷ z)
+        (append_assoc (spelled f) (reserved r.Then ∷ process_spelled a)
+        (reserved r.Else ∷ process_spelled b))
 
     by : IsOpen a ⊎ (IsOpen a → ⊥) → (IsOpen a → Filled a b) → Filled (branch f a) b
     by (inl i) inner =
         let t = inner i in
-        record { tree = branch f t.tree; built = (h.0, t.built); spelled_is = ap (λ z. reserved r.If ∷ (spelled f ++ reserved r.Then ∷ z)) t.spelled_is ∙ sym rejoin }
-    by (inr c) inner = record { tree = branch_else f a b; built = (h.0, h.1, c, g); spelled_is = sym rejoin }
+        record {
+          tree = branch f t.tree;
+          built = (h.0, t.built);
+          spelled_is =
+              ap (λ z. reserved r.If ∷ (spelled f ++ reserved r.Then ∷ z)) t.spelled_is
+              ∙ sym rejoin;
+        }
+    by (inr c) inner = record {
+      tree = branch_else f a b;
+      built = (h.0, h.1, c, g);
+      spelled_is =
+          sym rejoin;
+    }
 fill (branch_else f a d) b h g o =
     let t = fill d b h.3 g o in
     let else_b = reserved r.Else ∷ process_spelled b in
@@ -75,16 +99,28 @@ fill (branch_else f a d) b h g o =
       tree = branch_else f a t.tree;
       built = (h.0, h.1, h.2, t.built);
       spelled_is =
-          ap (λ z. reserved r.If ∷ (spelled f ++ reserved r.Then ∷ (process_spelled a ++ reserved r.Else ∷ z))) t.spelled_is
-          ∙ (ap (λ z. reserved r.If ∷ (spelled f ++ reserved r.Then ∷ z)) (sym (append_assoc (process_spelled a) else_d else_b))
-          ∙ ap (λ z. reserved r.If ∷ z) (sym (append_assoc (spelled f) (reserved r.Then ∷ (process_spelled a ++ else_d)) else_b)));
+          ap (λ z. reserved r.If
+          ∷ (spelled f ++ reserved r.Then ∷ (process_spelled a ++ reserved r.Else ∷ z)))
+          t.spelled_is
+          ∙ (ap (λ z. reserved r.If ∷ (spelled f ++ reserved r.Then ∷ z))
+          (sym (append_assoc (process_spelled a) else_d else_b))
+          ∙ ap (λ z. reserved r.If ∷ z)
+          (sym (append_assoc (spelled f) (reserved r.Then ∷ (process_spelled a ++ else_d))
+          else_b)));
     }
 fill (find ns f a) b h g o = by (open_or_not a) (λ i. fill a b h.2 g i)
   where
-    rejoin : process_spelled (find ns f a) ++ reserved r.Else ∷ process_spelled b ≡ reserved r.Find ∷ (names_spelled ns ++ reserved r.Such ∷ reserved r.That ∷ (spelled f ++ reserved r.In ∷ (process_spelled a ++ reserved r.Else ∷ process_spelled b)))
+    rejoin : process_spelled (find ns f a) ++ reserved r.Else ∷ process_spelled b ≡ reserved r.Find
+        ∷ (names_spelled ns ++ reserved r.Such ∷ reserved r.That
+        ∷ (spelled f ++ reserved r.In ∷ (process_spelled a ++ reserved r.Else ∷ process_spelled b)))
     rejoin =
-        ap (λ z. reserved r.Find ∷ z) (append_assoc (names_spelled ns) (reserved r.Such ∷ reserved r.That ∷ (spelled f ++ reserved r.In ∷ process_spelled a)) (reserved r.Else ∷ process_spelled b)
-        ∙ ap (λ z. names_spelled ns ++ reserved r.Such ∷ reserved r.That ∷ z) (append_assoc (spelled f) (reserved r.In ∷ process_spelled a) (reserved r.Else ∷ process_spelled b)))
+        ap (λ z. reserved r.Find ∷ z)
+        (append_assoc (names_spelled ns)
+        (reserved r.Such ∷ reserved r.That ∷ (spelled f ++ reserved r.In ∷ process_spelled a))
+        (reserved r.Else ∷ process_spelled b)
+        ∙ ap (λ z. names_spelled ns ++ reserved r.Such ∷ reserved r.That ∷ z)
+        (append_assoc (spelled f) (reserved r.In ∷ process_spelled a)
+        (reserved r.Else ∷ process_spelled b)))
 
     by : IsOpen a ⊎ (IsOpen a → ⊥) → (IsOpen a → Filled a b) → Filled (find ns f a) b
     by (inl i) inner =
@@ -92,9 +128,16 @@ fill (find ns f a) b h g o = by (open_or_not a) (λ i. fill a b h.2 g i)
         record {
           tree = find ns f t.tree;
           built = (h.0, h.1, t.built);
-          spelled_is = ap (λ z. reserved r.Find ∷ (names_spelled ns ++ reserved r.Such ∷ reserved r.That ∷ (spelled f ++ reserved r.In ∷ z))) t.spelled_is ∙ sym rejoin;
+          spelled_is = ap (λ z. reserved r.Find
+              ∷ (names_spelled ns ++ reserved r.Such ∷ reserved r.That
+              ∷ (spelled f ++ reserved r.In ∷ z))) t.spelled_is ∙ sym rejoin;
         }
-    by (inr c) inner = record { tree = find_else ns f a b; built = (h.0, h.1, h.2, c, g); spelled_is = sym rejoin }
+    by (inr c) inner = record {
+      tree = find_else ns f a b;
+      built =
+          (h.0, h.1, h.2, c, g);
+      spelled_is = sym rejoin;
+    }
 fill (find_else ns f a d) b h g o =
     let t = fill d b h.4 g o in
     let else_b = reserved r.Else ∷ process_spelled b in
@@ -103,10 +146,21 @@ fill (find_else ns f a d) b h g o =
       tree = find_else ns f a t.tree;
       built = (h.0, h.1, h.2, h.3, t.built);
       spelled_is =
-          ap (λ z. reserved r.Find ∷ (names_spelled ns ++ reserved r.Such ∷ reserved r.That ∷ (spelled f ++ reserved r.In ∷ (process_spelled a ++ reserved r.Else ∷ z)))) t.spelled_is
-          ∙ (ap (λ z. reserved r.Find ∷ (names_spelled ns ++ reserved r.Such ∷ reserved r.That ∷ (spelled f ++ reserved r.In ∷ z))) (sym (append_assoc (process_spelled a) else_d else_b))
-          ∙ (ap (λ z. reserved r.Find ∷ (names_spelled ns ++ reserved r.Such ∷ reserved r.That ∷ z)) (sym (append_assoc (spelled f) (reserved r.In ∷ (process_spelled a ++ else_d)) else_b))
-          ∙ ap (λ z. reserved r.Find ∷ z) (sym (append_assoc (names_spelled ns) (reserved r.Such ∷ reserved r.That ∷ (spelled f ++ reserved r.In ∷ (process_spelled a ++ else_d))) else_b))));
+          ap (λ z. reserved r.Find
+          ∷ (names_spelled ns ++ reserved r.Such ∷ reserved r.That
+          ∷ (spelled f ++ reserved r.In ∷ (process_spelled a ++ reserved r.Else ∷ z))))
+          t.spelled_is
+          ∙ (ap (λ z. reserved r.Find
+          ∷ (names_spelled ns ++ reserved r.Such ∷ reserved r.That
+          ∷ (spelled f ++ reserved r.In ∷ z)))
+          (sym (append_assoc (process_spelled a) else_d else_b))
+          ∙ (ap (λ z. reserved r.Find ∷ (names_spelled ns ++ reserved r.Such ∷ reserved r.That ∷ z))
+          (sym (append_assoc (spelled f) (reserved r.In ∷ (process_spelled a ++ else_d))
+          else_b))
+          ∙ ap (λ z. reserved r.Find ∷ z)
+          (sym (append_assoc (names_spelled ns)
+          (reserved r.Such ∷ reserved r.That
+          ∷ (spelled f ++ reserved r.In ∷ (process_spelled a ++ else_d))) else_b))));
     }
 fill (define n f a) b h g o =
     let t = fill a b h.1 g o in
@@ -115,15 +169,27 @@ fill (define n f a) b h g o =
       tree = define n f t.tree;
       built = (h.0, t.built);
       spelled_is =
-          ap (λ z. reserved r.Let ∷ word n ∷ mark p.Equals ∷ (spelled f ++ reserved r.In ∷ z)) t.spelled_is
-          ∙ ap (λ z. reserved r.Let ∷ word n ∷ mark p.Equals ∷ z) (sym (append_assoc (spelled f) (reserved r.In ∷ process_spelled a) else_b));
+          ap (λ z. reserved r.Let ∷ word n ∷ mark p.Equals ∷ (spelled f ++ reserved r.In ∷ z))
+          t.spelled_is
+          ∙ ap (λ z. reserved r.Let ∷ word n ∷ mark p.Equals ∷ z)
+          (sym (append_assoc (spelled f) (reserved r.In ∷ process_spelled a) else_b));
     }
 fill (replicate n a) b h g o =
     let t = fill a b h g o in
-    record { tree = replicate n t.tree; built = t.built; spelled_is = ap (λ z. mark p.Repeat ∷ word n ∷ z) t.spelled_is }
+    record {
+      tree = replicate n t.tree;
+      built = t.built;
+      spelled_is =
+          ap (λ z. mark p.Repeat ∷ word n ∷ z) t.spelled_is;
+    }
 fill (label n a) b h g o =
     let t = fill a b h g o in
-    record { tree = label n t.tree; built = t.built; spelled_is = ap (λ z. word n ∷ mark p.Colon ∷ z) t.spelled_is }
+    record {
+      tree = label n t.tree;
+      built = t.built;
+      spelled_is =
+          ap (λ z. word n ∷ mark p.Colon ∷ z) t.spelled_is;
+    }
 fill (call n) b h g o = absurd o
 fill (call_with n ns) b h g o = absurd o
 fill (parallel ps) b h g o = absurd o

@@ -81,11 +81,14 @@ module _ (F G R S : List Sign → Type 0) (formula : (ts : List Sign) → F ts �
   process_elements_room [] ts h = h
   process_elements_room (g.token s ∷ es) ts h = (h.0, h.1, process_elements_room es h.0 h.2)
   process_elements_room (a_formula ∷ es) ts (inl h) = inl (formula ts h)
-  process_elements_room (a_formula ∷ es) ts (inr h) = inr (h.0, h.1, h.2, process_elements_room es h.1 h.3)
+  process_elements_room (a_formula ∷ es) ts (inr h) =
+      inr (h.0, h.1, h.2, process_elements_room es h.1 h.3)
   process_elements_room (a_process ∷ es) ts (inl h) = inl (process ts h)
-  process_elements_room (a_process ∷ es) ts (inr h) = inr (h.0, h.1, h.2, process_elements_room es h.1 h.3)
+  process_elements_room (a_process ∷ es) ts (inr h) =
+      inr (h.0, h.1, h.2, process_elements_room es h.1 h.3)
 
-  parallel_room : (ps : ProcTrees) (ts : List Sign) → ParallelDeep F R ps ts → ParallelDeep G S ps ts
+  parallel_room : (ps : ProcTrees) (ts : List Sign) → ParallelDeep F R ps ts
+      → ParallelDeep G S ps ts
   parallel_room none ts h = process ts h
   parallel_room (more a ps) ts h = (h.0, h.1, parallel_room ps h.0 h.2)
 

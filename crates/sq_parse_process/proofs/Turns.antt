@@ -21,7 +21,8 @@ onto (x ∷ xs) ys = more x (onto xs ys)
 abbrev pub with_processes : List Proc → Read ProcTrees → Read ProcTrees
 with_processes ps m = bind m (λ ys q. got (onto (map process_tree ps) ys) q)
 
-onto_push : (ps : List Proc) (a : Proc) (ys : ProcTrees) → onto (map process_tree (ps ++ a ∷ [])) ys ≡ onto (map process_tree ps) (more (process_tree a) ys)
+onto_push : (ps : List Proc) (a : Proc) (ys : ProcTrees) → onto (map process_tree (ps ++ a ∷ [])) ys
+    ≡ onto (map process_tree ps) (more (process_tree a) ys)
 onto_push [] a ys = refl
 onto_push (f ∷ ps) a ys = ap (λ z. more (process_tree f) z) (onto_push ps a ys)
 
@@ -29,7 +30,9 @@ onto_none : (ts : List ProcTree) → onto ts tree.none ≡ trees ts
 onto_none [] = refl
 onto_none (t ∷ ts) = ap (λ z. more t z) (onto_none ts)
 
-processes_push : (m : Read ProcTrees) (ps : List Proc) (a : Proc) → with_processes ps (bind m (λ xs q. got (more (process_tree a) xs) q)) ≡ with_processes (ps ++ a ∷ []) m
+processes_push : (m : Read ProcTrees) (ps : List Proc) (a : Proc)
+    → with_processes ps (bind m (λ xs q. got (more (process_tree a) xs) q))
+    ≡ with_processes (ps ++ a ∷ []) m
 processes_push deep ps a = refl
 processes_push none ps a = refl
 processes_push (got ys q) ps a = ap (λ z. got z q) (sym (onto_push ps a ys))
@@ -50,31 +53,45 @@ module _ (F : List Sign → Read FormulaTree) (P : List Sign → Read ProcTree) 
   process_deep zero ts h e = absurd (omega arith)
   process_deep (suc n) ts h e = rw e refl
 
-  process_last : (n : ℕ) (ts : List Sign) (x : ProcTree) (q : List Sign) → 0 < n → P ts ≡ got x q → eat (mark p.Bar) q ≡ none → read_processes F P n ts ≡ got (more x tree.none) q
+  process_last : (n : ℕ) (ts : List Sign) (x : ProcTree) (q : List Sign) → 0 < n → P ts ≡ got x q
+      → eat (mark p.Bar) q ≡ none → read_processes F P n ts ≡ got (more x tree.none) q
   unfolding read_processes
   process_last zero ts x q h e f = absurd (omega arith)
   process_last (suc n) ts x q h e f = rw (e, f) refl
 
-  process_next : (n : ℕ) (ts : List Sign) (x : ProcTree) (q u : List Sign) → 0 < n → P ts ≡ got x q → eat (mark p.Bar) q ≡ got (tt {0}) u → read_processes F P n ts ≡ bind (read_processes F P (n - 1) u) (λ xs v. got (more x xs) v)
+  process_next : (n : ℕ) (ts : List Sign) (x : ProcTree) (q u : List Sign) → 0 < n → P ts ≡ got x q
+      → eat (mark p.Bar) q ≡ got (tt {0}) u → read_processes F P n ts
+      ≡ bind (read_processes F P (n - 1) u) (λ xs v. got (more x xs) v)
   unfolding read_processes
   process_next zero ts x q u h e f = absurd (omega arith)
-  process_next (suc n) ts x q u h e f = let less : suc n - 1 ≡ n = omega arith in rw (e, f, less) refl
+  process_next (suc n) ts x q u h e f = let less : suc n - 1 ≡ n = omega arith in
+      rw (e, f, less) refl
 
   process_out : (ts : List Sign) → read_processes F P 0 ts ≡ none
   unfolding read_processes
   process_out ts = refl
 
-  module _ (n : ℕ) (found : List Proc) (ts : List Sign) (m : Read ProcTrees) (before : with_processes found (read_processes F P n ts) ≡ m) where
-    pub turn_last : 0 < n → (x : Proc) (q : List Sign) → P ts ≡ got (process_tree x) q → eat (mark p.Bar) q ≡ none → m ≡ got (process_trees (found ++ x ∷ [])) q
-    turn_last h x q e f = sym before ∙ (ap (with_processes found) (process_last n ts (process_tree x) q h e f)
-        ∙ ap (λ z. got z q) (sym (onto_push found x tree.none) ∙ onto_none (map process_tree (found ++ x ∷ []))))
+  module _ (n : ℕ) (found : List Proc) (ts : List Sign) (m : Read ProcTrees)
+      (before : with_processes found (read_processes F P n ts) ≡ m) where
+    pub turn_last : 0 < n → (x : Proc) (q : List Sign) → P ts ≡ got (process_tree x) q
+        → eat (mark p.Bar) q ≡ none → m ≡ got (process_trees (found ++ x ∷ [])) q
+    turn_last h x q e f =
+        sym before ∙ (ap (with_processes found) (process_last n ts (process_tree x) q h e f)
+        ∙ ap (λ z. got z q) (sym (onto_push found x tree.none)
+        ∙ onto_none (map process_tree (found ++ x ∷ []))))
 
-    pub turn_next : 0 < n → (x : Proc) (q u : List Sign) → P ts ≡ got (process_tree x) q → eat (mark p.Bar) q ≡ got (tt {0}) u → with_processes (found ++ x ∷ []) (read_processes F P (n - 1) u) ≡ m
-    turn_next h x q u e f = sym (processes_push (read_processes F P (n - 1) u) found x) ∙ (ap (with_processes found) (sym (process_next n ts (process_tree x) q u h e f)) ∙ before)
+    pub turn_next : 0 < n → (x : Proc) (q u : List Sign) → P ts ≡ got (process_tree x) q
+        → eat (mark p.Bar) q ≡ got (tt {0}) u
+        → with_processes (found ++ x ∷ []) (read_processes F P (n - 1) u) ≡ m
+    turn_next h x q u e f = sym (processes_push (read_processes F P (n - 1) u) found x)
+        ∙ (ap (with_processes found) (sym (process_next n ts (process_tree x) q u h e f)) ∙ before)
 
     pub turn_fails : (e : Stop) → 0 < n → Fails e (P ts) → Fails e m
-    turn_fails e h f = subst (Fails e) before (fails_by e (read_processes F P n ts) (with_processes found (read_processes F P n ts)) (λ g. ap (with_processes found) g) (λ g. ap (with_processes found) g)
+    turn_fails e h f = subst (Fails e) before
+        (fails_by e (read_processes F P n ts) (with_processes found (read_processes F P n ts))
+        (λ g. ap (with_processes found) g) (λ g. ap (with_processes found) g)
         (fails_by e (P ts) (read_processes F P n ts) (process_none n ts) (process_deep n ts h) f))
 
     pub turn_out : n ≡ 0 → m ≡ none
-    turn_out e = sym before ∙ ap (with_processes found) (ap (λ k. read_processes F P k ts) e ∙ process_out ts)
+    turn_out e = sym before
+        ∙ ap (with_processes found) (ap (λ k. read_processes F P k ts) e ∙ process_out ts)

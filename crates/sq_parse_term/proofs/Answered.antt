@@ -31,7 +31,13 @@ longest_is d ts t q e = subst (Tells (IsLongest Formula ts)) e
 
 pub formula_is : (ts : List Sign) (t : FormulaTree) (q : List Sign) → parse 256 Formula ts ≡ got t q
     → height t ≤ 256 → IsFormula ts t q
-formula_is ts t q e h = record { longest = longest_is 256 ts t q e; depth = h; shallow = λ g. subst IsDeep e (parse_deep 256 Formula ts g) }
+formula_is ts t q e h =
+    record {
+      longest = longest_is 256 ts t q e;
+      depth = h;
+      shallow =
+          λ g. subst IsDeep e (parse_deep 256 Formula ts g);
+    }
 
 pub none_is : (ts : List Sign) → parse 256 Formula ts ≡ none → HasNone ts
 none_is ts e = record {
@@ -49,7 +55,8 @@ pub over : (n m : ℕ) → (n ≤ m → IsTrue false) → m < n
 over n m h = by (nat_le n m) refl
   where
     by : (b : Bool) → nat_le n m ≡ b → m < n
-    by true e = let le : n ≤ m = grind (arith, nat_tests) in let never : ⊥ = true≢false (sym (h le)) in
+    by true e = let le : n ≤ m = grind (arith, nat_tests) in let never : ⊥ =
+        true≢false (sym (h le)) in
         absurd never
     by false e = grind (arith, nat_tests)
 

@@ -1,5 +1,6 @@
 -- What begins the list is read, or something longer.
-use Rattle.std.proofs.Common.{◌≡◌, ℕ, zero, suc, ◌+◌, ◌<◌, ◌≤◌, Bool, true, false, cond, nat_eq}
+use Rattle.std.proofs.Common.{◌≡◌, ℕ, zero, suc, ◌+◌, ◌<◌, ◌≤◌, Bool, true, false, if◌then◌else◌}
+use Rattle.std.proofs.Common.{nat_eq}
 use Rattle.std.proofs.Common.{nat_le, List, [], ◌∷◌, ◌++◌, length, Option, Some, None, refl, sym}
 use Rattle.std.proofs.Common.{ap, ◌∙◌, subst, arith, append_assoc, length-append, ◌⊎◌, inl, inr}
 use Rattle.std.specs.Prelude.{⊤}
@@ -408,8 +409,8 @@ module _ (P : Form → List Sign → Read FormulaTree)
     where
       by_rank : (o : Binary) (b : Bool)
           → Finds (λ u v. length v ≤ length (mark i ∷ q))
-          (cond b (recover (P (operand_form o) q) (λ b v. got (binary o a b) v)
-          (got a (mark i ∷ q))) (got a (mark i ∷ q)))
+          (if b then recover (P (operand_form o) q) (λ b v. got (binary o a b) v)
+          (got a (mark i ∷ q)) else got a (mark i ∷ q))
       by_rank o true = recover_holds ⊤ ⊥ (IsFront (operand_form o) q) _ ⊤
           (P (operand_form o) q) _ _ (sound (operand_form o) q)
           (λ b v g. omega (arith, ap length g.split, length-append (spelled b) v)) (omega arith)
@@ -431,8 +432,8 @@ module _ (P : Form → List Sign → Read FormulaTree)
       by_rank : (o : Binary) → binary_of i ≡ Some o → (b : Bool)
           → nat_eq (binary_rank o) (suc l) ≡ b
           → Finds (Ahead (suc l) t (mark i ∷ q))
-          (cond b (recover (P (operand_form o) q) (λ b v. got (binary o t b) v)
-          (got t (mark i ∷ q))) (got t (mark i ∷ q)))
+          (if b then recover (P (operand_form o) q) (λ b v. got (binary o t b) v)
+          (got t (mark i ∷ q)) else got t (mark i ∷ q))
       by_rank o e true f = recover_holds ⊤ ⊥ (IsFront (operand_form o) q) _ ⊤
           (P (operand_form o) q) _ _ (sound (operand_form o) q)
           (λ b v g.
@@ -506,7 +507,8 @@ module _ (P : Form → List Sign → Read FormulaTree)
       absurd never
   raised l (constant a) rest m false e p h b lower = let never : ⊥ = grind (arith, nat_tests) in
       absurd never
-  raised l (conditional a c d) rest m false e p h b lower = let never : ⊥ = grind (arith, nat_tests) in
+  raised l (conditional a c d) rest m false e p h b lower = let never : ⊥ =
+      grind (arith, nat_tests) in
       absurd never
   raised l (find ns a c d) rest m false e p h b lower = let never : ⊥ = grind (arith, nat_tests) in
       absurd never

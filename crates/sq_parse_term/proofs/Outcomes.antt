@@ -1,5 +1,6 @@
 -- What holds of an outcome, and the steps that keep it.
-use Rattle.std.proofs.Common.{◌≡◌, Bool, true, false, cond, List, [], ◌∷◌, refl, ap, subst, rules}
+use Rattle.std.proofs.Common.{◌≡◌, Bool, true, false, if◌then◌else◌, List, [], ◌∷◌, refl, ap, subst}
+use Rattle.std.proofs.Common.{rules}
 use Rattle.std.specs.Prelude.{⊤, Option, Some, None}
 use Rattle.std.proofs.lemmas.Slice.Eq.{bytes_eq-Decides}
 use Rattle.std.proofs.lemmas.Bool.Decides.{Decides-eqb}
@@ -94,7 +95,8 @@ unfolding eat
 eat_never s [] = tt
 eat_never s (t ∷ q) = by (same t s) refl
   where
-    by : (b : Bool) → same t s ≡ b → Never (λ u v. t ∷ q ≡ s ∷ v) (cond b (got (tt {0}) q) none)
+    by : (b : Bool) → same t s ≡ b
+        → Never (λ u v. t ∷ q ≡ s ∷ v) (if b then got (tt {0}) q else none)
     by true e = ap (λ x. x ∷ q) (same_is t s e)
     by false e = tt
 
@@ -106,7 +108,7 @@ pub eat_other : (s t : Sign) (q : List Sign) → (t ≡ s → ⊥) → eat s (t 
 unfolding eat
 eat_other s t q h = by (same t s) refl
   where
-    by : (b : Bool) → same t s ≡ b → cond b (got (tt {0}) q) none ≡ none
+    by : (b : Bool) → same t s ≡ b → (if b then got (tt {0}) q else none) ≡ none
     by true e = absurd (h (same_is t s e))
     by false e = refl
 

@@ -1,5 +1,6 @@
 -- `parse` is deep exactly where the place runs deep.
-use Rattle.std.proofs.Common.{◌≡◌, ℕ, zero, suc, ◌<◌, ◌≤◌, Bool, true, false, cond, nat_eq, List}
+use Rattle.std.proofs.Common.{◌≡◌, ℕ, zero, suc, ◌<◌, ◌≤◌, Bool, true, false, if◌then◌else◌, nat_eq}
+use Rattle.std.proofs.Common.{List}
 use Rattle.std.proofs.Common.{[], ◌∷◌, ◌++◌, length, Option, Some, None, refl, sym, ap, ◌∙◌, subst}
 use Rattle.std.proofs.Common.{arith, length-append, inl, inr}
 use Rattle.std.specs.Prelude.{⊤}
@@ -86,7 +87,12 @@ rank_longest_of l ts (got a q) t g = record {
 left_longest : (o : Binary) (l : ℕ) (ts : List Sign) (a : FormulaTree) (q : List Sign)
     → binary_rank o ≡ suc l → RankLongest l ts a q → IsLongest (left_form o) ts a q
 left_longest o l ts a q e h = record {
-  front = record { form_is = left_has o a l e h.front.rank_is; built = h.front.built; split = h.front.split };
+  front = record {
+    form_is = left_has o a l e h.front.rank_is;
+    built = h.front.built;
+    split =
+        h.front.split;
+  };
   longest = λ u v g. h.longest u v (let less = left_rank o u g.form_is in
       record { rank_is = omega arith; built = g.built; split = g.split });
 }
@@ -215,14 +221,46 @@ module _ (P : Form → List Sign → Read FormulaTree)
       of (start.Quantifier k) = tt
       of (start.Constant c) = tt
       of (start.Unary u) = alternative_only _ (call u) q
-          (λ g. record { alternative = call u; of_form = tt; whole = tt; rest = q; split = refl; runs = g })
+          (λ g. record {
+            alternative = call u;
+            of_form = tt;
+            whole = tt;
+            rest = q;
+            split =
+                refl;
+            runs = g;
+          })
       of (start.Macro m) = alternative_only _ (valuation m) q
-          (λ g. record { alternative = valuation m; of_form = tt; whole = tt; rest = q; split = refl; runs = g })
+          (λ g. record {
+            alternative = valuation m;
+            of_form = tt;
+            whole = tt;
+            rest = q;
+            split =
+                refl;
+            runs = g;
+          })
       of start.If = alternative_only _ condition q
-          (λ g. record { alternative = condition; of_form = tt; whole = tt; rest = q; split = refl; runs = g })
+          (λ g. record {
+            alternative = condition;
+            of_form = tt;
+            whole = tt;
+            rest = q;
+            split =
+                refl;
+            runs = g;
+          })
       of start.Find = found_only q
       of start.Diff = alternative_only _ difference q
-          (λ g. record { alternative = difference; of_form = tt; whole = tt; rest = q; split = refl; runs = g })
+          (λ g. record {
+            alternative = difference;
+            of_form = tt;
+            whole = tt;
+            rest = q;
+            split =
+                refl;
+            runs = g;
+          })
 
       by : (o : Option Start) → start_of w ≡ o
           → Only (AlternativeDeep R form.Term (reserved w ∷ q)) (λ a v. ⊤) (begun P o q)
@@ -233,9 +271,25 @@ module _ (P : Form → List Sign → Read FormulaTree)
   marked_only : (i : Punctuation) (q : List Sign)
       → Only (AlternativeDeep R form.Term (mark i ∷ q)) (λ a v. ⊤) (marked P i q)
   marked_only p.OpenParenthesis q = alternative_only _ grouping q
-      (λ g. record { alternative = grouping; of_form = tt; whole = tt; rest = q; split = refl; runs = g })
+      (λ g. record {
+        alternative = grouping;
+        of_form = tt;
+        whole = tt;
+        rest = q;
+        split =
+            refl;
+        runs = g;
+      })
   marked_only p.Less q = alternative_only _ pairing q
-      (λ g. record { alternative = pairing; of_form = tt; whole = tt; rest = q; split = refl; runs = g })
+      (λ g. record {
+        alternative = pairing;
+        of_form = tt;
+        whole = tt;
+        rest = q;
+        split = refl;
+        runs =
+            g;
+      })
   marked_only _ q = tt
 
   term_only : (ts : List Sign) → Only (RankDeep R 0 ts) (λ a q. ⊤) (term P ts)
@@ -261,8 +315,8 @@ module _ (P : Form → List Sign → Read FormulaTree)
       by_rank : (o : Binary) → binary_of i ≡ Some o → (b : Bool)
           → nat_eq (binary_rank o) (suc l) ≡ b
           → Only (OperandDeep R (suc l) ts) (λ a q. ⊤)
-          (cond b (recover (P (operand_form o) q) (λ b v. got (binary o a b) v)
-          (got a (mark i ∷ q))) (got a (mark i ∷ q)))
+          (if b then recover (P (operand_form o) q) (λ b v. got (binary o a b) v)
+          (got a (mark i ∷ q)) else got a (mark i ∷ q))
       by_rank o e true f =
           let D = OperandDeep R (suc l) ts in
           let same_rank : binary_rank o ≡ suc l = grind (arith, nat_tests) in
@@ -339,7 +393,15 @@ module _ (P : Form → List Sign → Read FormulaTree)
           (λ a v. ⊤) (time_at P (Some s) q)
       of (start.Constant Init) = tt
       of (start.Unary Pred) = alternative_only _ (call Pred) q
-          (λ g. record { alternative = call Pred; of_form = tt; whole = tt; rest = q; split = refl; runs = g })
+          (λ g. record {
+            alternative = call Pred;
+            of_form = tt;
+            whole = tt;
+            rest = q;
+            split =
+                refl;
+            runs = g;
+          })
       of _ = tt
 
       by : (o : Option Start) → start_of w ≡ o

@@ -1,5 +1,6 @@
 -- What is read is in the grammar, and stands at the front.
-use Rattle.std.proofs.Common.{◌≡◌, ℕ, zero, suc, ◌≤◌, Bool, true, false, cond, nat_eq, List, []}
+use Rattle.std.proofs.Common.{◌≡◌, ℕ, zero, suc, ◌≤◌, Bool, true, false, if◌then◌else◌, nat_eq}
+use Rattle.std.proofs.Common.{List, []}
 use Rattle.std.proofs.Common.{◌∷◌, ◌++◌, length, Option, Some, None, refl, sym, ap, ◌∙◌, subst}
 use Rattle.std.proofs.Common.{arith, append_assoc}
 use Rattle.std.specs.Prelude.{⊤}
@@ -375,11 +376,16 @@ pred_time (more a (more b xs)) h = absurd h.2
 pub front_of_rank : (f : Form) (ts : List Sign) (t : FormulaTree) (q : List Sign)
     → (f ≡ form.Time → ⊥) → RankFront (rank f) ts t q → IsFront f ts t q
 front_of_rank form.Time ts t q n h = absurd (n refl)
-front_of_rank form.Term ts t q n h = record { form_is = h.rank_is; built = h.built; split = h.split }
-front_of_rank form.Atom ts t q n h = record { form_is = h.rank_is; built = h.built; split = h.split }
-front_of_rank form.Conj ts t q n h = record { form_is = h.rank_is; built = h.built; split = h.split }
-front_of_rank form.Disj ts t q n h = record { form_is = h.rank_is; built = h.built; split = h.split }
-front_of_rank form.Formula ts t q n h = record { form_is = h.rank_is; built = h.built; split = h.split }
+front_of_rank form.Term ts t q n h =
+    record { form_is = h.rank_is; built = h.built; split = h.split }
+front_of_rank form.Atom ts t q n h =
+    record { form_is = h.rank_is; built = h.built; split = h.split }
+front_of_rank form.Conj ts t q n h =
+    record { form_is = h.rank_is; built = h.built; split = h.split }
+front_of_rank form.Disj ts t q n h =
+    record { form_is = h.rank_is; built = h.built; split = h.split }
+front_of_rank form.Formula ts t q n h =
+    record { form_is = h.rank_is; built = h.built; split = h.split }
 
 module _ (P : Form → List Sign → Read FormulaTree)
     (sound : (f : Form) (ts : List Sign) → Tells (IsFront f ts) (P f ts)) where
@@ -558,8 +564,8 @@ module _ (P : Form → List Sign → Read FormulaTree)
       by_rank : (o : Binary) → binary_of i ≡ Some o → (b : Bool)
           → nat_eq (binary_rank o) (suc l) ≡ b
           → Tells (RankFront (suc l) ts)
-          (cond b (recover (P (operand_form o) q) (λ b v. got (binary o a b) v)
-          (got a (mark i ∷ q))) (got a (mark i ∷ q)))
+          (if b then recover (P (operand_form o) q) (λ b v. got (binary o a b) v)
+          (got a (mark i ∷ q)) else got a (mark i ∷ q))
       by_rank o e true f = recover_holds ⊤ ⊤ (IsFront (operand_form o) q) (RankFront (suc l) ts) ⊤
           (P (operand_form o) q) _ _ (sound (operand_form o) q)
           (λ b v g.

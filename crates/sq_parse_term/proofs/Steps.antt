@@ -79,7 +79,8 @@ module _ (P : Form → List Sign → Read FormulaTree) where
   unfolding run
   token_some s es k ts q e = rw e refl
 
-  pub token_fails : (e : Stop) (s : Sign) (es : List Element) (k : FormulaTrees → FormulaTree) (ts : List Sign) → Eats (Err e) (eat s ts) → Fails e (run P (token s ∷ es) k ts)
+  pub token_fails : (e : Stop) (s : Sign) (es : List Element) (k : FormulaTrees → FormulaTree)
+      (ts : List Sign) → Eats (Err e) (eat s ts) → Fails e (run P (token s ∷ es) k ts)
   unfolding run
   token_fails stop.None s es k ts h = rw h refl
   token_fails stop.TooDeep s es k ts h = absurd h

@@ -215,6 +215,7 @@ err_reads view e (Ok x) m h f = absurd h
 err_reads view e (Err g) m h f = subst (λ z. Fails z m) (sym h) f
 
 -- an answer further on is one of the whole
-pub reads_from : {X Y : Type 0} (view : X → Y) (r : Result (X × Bor (List Token)) Stop) (m n : Read Y)
+pub reads_from : {X Y : Type 0} (view : X → Y) (r : Result (X × Bor (List Token)) Stop)
+    (m n : Read Y)
     → m ≡ n → Reads view r n → Reads view r m
 reads_from view r m n e h = subst (Reads view r) (sym e) h

@@ -1,5 +1,7 @@
--- A place with no more tokens behind it than nodes may stand around it does not run deep. So no list has two trees.
-use Rattle.std.proofs.Common.{◌≡◌, ℕ, zero, suc, ◌<◌, ◌≤◌, Bool, true, false, cond, nat_eq, List}
+-- A place with no more tokens behind it than nodes may stand around it does not run deep. So no
+-- list has two trees.
+use Rattle.std.proofs.Common.{◌≡◌, ℕ, zero, suc, ◌<◌, ◌≤◌, Bool, true, false, if◌then◌else◌, nat_eq}
+use Rattle.std.proofs.Common.{List}
 use Rattle.std.proofs.Common.{[], ◌∷◌, length, Option, Some, None, sym, ap, ◌∙◌, subst, arith}
 use Rattle.std.proofs.Common.{length-append, inl, inr}
 use Rattle.std.specs.Prelude.{⊤}
@@ -50,9 +52,9 @@ action_within n ts = weaken ⊥ ⊤ _ _ (action n ts) (action_never n ts)
     (λ t q h. omega (arith, ap length h.split, length-append (spelled t) q))
 
 -- a step, and then another
-then : {A B : Type 0} (ts : List Sign) (m : Read A) (f : A → List Sign → Read B) → Within ts m
+after : {A B : Type 0} (ts : List Sign) (m : Read A) (f : A → List Sign → Read B) → Within ts m
     → ((a : A) (q : List Sign) → length q ≤ length ts → Within ts (f a q)) → Within ts (bind m f)
-then ts m f h g = bind_holds ⊥ ⊤ _ _ m f h g
+after ts m f h g = bind_holds ⊥ ⊤ _ _ m f h g
 
 further : {A : Type 0} (ts q : List Sign) (m : Read A) → length q ≤ length ts → Within q m
     → Within ts m
@@ -66,9 +68,9 @@ module _ (P : Form → List Sign → Read FormulaTree) (d : ℕ)
       → Within ts (run P es k ts)
   unfolding run
   run_within [] k ts lt = omega arith
-  run_within (token s ∷ es) k ts lt = then ts (eat s ts) _ (eat_within s ts)
+  run_within (token s ∷ es) k ts lt = after ts (eat s ts) _ (eat_within s ts)
       (λ u q h. further ts q _ h (run_within es k q (omega arith)))
-  run_within (part f ∷ es) k ts lt = then ts (P f ts) _ (within f ts lt)
+  run_within (part f ∷ es) k ts lt = after ts (P f ts) _ (within f ts lt)
       (λ a q h. further ts q _ h (run_within es (λ xs. k (more a xs)) q (omega arith)))
 
   alternative_within : (a : Alternative) (ts : List Sign) → length ts < d
@@ -78,20 +80,21 @@ module _ (P : Form → List Sign → Read FormulaTree) (d : ℕ)
   formulas_within : (m : ℕ) (ts : List Sign) → length ts < d → Within ts (formulas P m ts)
   unfolding formulas
   formulas_within zero ts lt = tt
-  formulas_within (suc m) ts lt = then ts (P form.Formula ts) _ (within form.Formula ts lt)
+  formulas_within (suc m) ts lt = after ts (P form.Formula ts) _ (within form.Formula ts lt)
       (λ a q h.
       recover_holds ⊥ ⊤ (λ u v. length v ≤ length ts) _ ⊤ (comma q) _ _
       (further ts q _ h (eat_within (mark p.Comma) q))
-      (λ u v i. then ts (formulas P m v) _ (further ts v _ i (formulas_within m v (omega arith)))
+      (λ u v i. after ts (formulas P m v) _ (further ts v _ i (formulas_within m v (omega arith)))
       (λ xs y j. j))
       h)
 
   arguments_within : (ts : List Sign) → length ts < d → Within ts (arguments P ts)
   arguments_within ts lt =
-      then ts (eat (mark p.OpenParenthesis) ts) _ (eat_within (mark p.OpenParenthesis) ts) (λ u q h.
-      then ts (formulas P (suc (length q)) q) _
+      after ts (eat (mark p.OpenParenthesis) ts) _ (eat_within (mark p.OpenParenthesis) ts)
+      (λ u q h.
+      after ts (formulas P (suc (length q)) q) _
       (further ts q _ h (formulas_within (suc (length q)) q (omega arith))) (λ xs v i.
-      then ts (eat (mark p.CloseParenthesis) v) _
+      after ts (eat (mark p.CloseParenthesis) v) _
       (further ts v _ i (eat_within (mark p.CloseParenthesis) v)) (λ w y j. j)))
 
   applied_within : (n : List ℕ) (ts : List Sign) → length ts < d → Within ts (applied P n ts)
@@ -101,15 +104,16 @@ module _ (P : Form → List Sign → Read FormulaTree) (d : ℕ)
 
   found_within : (ts : List Sign) → length ts < d → Within ts (found P ts)
   unfolding found
-  found_within ts lt = then ts (identifiers ts) _ (identifiers_within ts)
+  found_within ts lt = after ts (identifiers ts) _ (identifiers_within ts)
       (λ ns q h. further ts q _ h (alternative_within (finding ns) q (omega arith)))
 
   quantifying_within : (k : Quantifier) (ts : List Sign) → length ts < d
       → Within ts (quantifying P k ts)
   unfolding quantifying
   quantifying_within k ts lt =
-      then ts (eat (mark p.OpenParenthesis) ts) _ (eat_within (mark p.OpenParenthesis) ts) (λ u q h.
-      then ts (binders q) _ (further ts q _ h (binders_within q))
+      after ts (eat (mark p.OpenParenthesis) ts) _ (eat_within (mark p.OpenParenthesis) ts)
+      (λ u q h.
+      after ts (binders q) _ (further ts q _ h (binders_within q))
       (λ gs v i. further ts v _ i (alternative_within (quantification k gs) v (omega arith))))
 
   begun_within : (o : Option Start) (q : List Sign) → length q < d → Within q (begun P o q)
@@ -148,8 +152,8 @@ module _ (P : Form → List Sign → Read FormulaTree) (d : ℕ)
   continued_within l a (mark i ∷ q) lt = by (binary_of i)
     where
       by_rank : (o : Binary) (b : Bool)
-          → Within (mark i ∷ q) (cond b (recover (P (operand_form o) q)
-          (λ b v. got (binary o a b) v) (got a (mark i ∷ q))) (got a (mark i ∷ q)))
+          → Within (mark i ∷ q) (if b then recover (P (operand_form o) q)
+          (λ b v. got (binary o a b) v) (got a (mark i ∷ q)) else got a (mark i ∷ q))
       by_rank o true = recover_holds ⊥ ⊤ (λ b v. length v ≤ length q) _ ⊤
           (P (operand_form o) q) _ _ (within (operand_form o) q (omega arith))
           (λ b v h. omega arith) (omega arith)
@@ -162,7 +166,7 @@ module _ (P : Form → List Sign → Read FormulaTree) (d : ℕ)
   ranked_within : (l : ℕ) (ts : List Sign) → length ts < suc d → Within ts (ranked P l ts)
   unfolding ranked
   ranked_within zero ts lt = term_within ts lt
-  ranked_within (suc l) ts lt = then ts (ranked P l ts) _ (ranked_within l ts lt)
+  ranked_within (suc l) ts lt = after ts (ranked P l ts) _ (ranked_within l ts lt)
       (λ a q h. further ts q _ h (continued_within (suc l) a q (omega arith)))
 
   formula_within : (ts : List Sign) → length ts < suc d → Within ts (formula P ts)

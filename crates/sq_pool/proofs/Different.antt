@@ -1,5 +1,6 @@
 -- Different ids have different trees, so a pool has as many trees as nodes.
-use Rattle.std.proofs.Common.{◌≡◌, ℕ, zero, suc, ◌+◌, ◌<◌, ◌≤◌, ◌||◌, Bool, true, false, cond, List}
+use Rattle.std.proofs.Common.{◌≡◌, ℕ, zero, suc, ◌+◌, ◌<◌, ◌≤◌, ◌||◌, Bool, true, false}
+use Rattle.std.proofs.Common.{if◌then◌else◌, List}
 use Rattle.std.proofs.Common.{[], ◌∷◌, length, slice_get, Some, unwrap_or, refl, sym, ap, ◌∙◌}
 use Rattle.std.proofs.Common.{subst, arith}
 use Rattle.std.specs.List.{list_any}
@@ -127,7 +128,7 @@ different_count-all (t ∷ ts) differ =
     later i j u g h = let next : suc i ≡ suc j = differ (suc i) (suc j) u g h in cc
 
     by : (b : Bool) → list_any (is_same_tree t) ts ≡ b → different_count ts ≡ length ts
-        → cond b (different_count ts) (different_count ts + 1) ≡ suc (length ts)
+        → (if b then different_count ts else (different_count ts + 1)) ≡ suc (length ts)
     by true e rest =
         let place = place_of t ts e in
         let first : 0 ≡ suc place.0 = differ 0 (suc place.0) t refl place.1 in

@@ -1,5 +1,6 @@
 -- Lists of nodes where one is put at the end.
-use Rattle.std.proofs.Common.{◌≡◌, ℕ, zero, suc, Bool, true, false, cond, true≢false, List, [], ◌∷◌}
+use Rattle.std.proofs.Common.{◌≡◌, ℕ, zero, suc, Bool, true, false, if◌then◌else◌, true≢false, List}
+use Rattle.std.proofs.Common.{[], ◌∷◌}
 use Rattle.std.proofs.Common.{◌++◌, length, length-append, slice_get, Some, refl, sym, ap, ◌∙◌}
 use Rattle.std.proofs.Common.{subst, ◌⊎◌, inl, inr, ⊎_elim, arith}
 use Rattle.std.specs.List.{list_any}
@@ -81,10 +82,10 @@ module _ (old : List Node) (x : Node) (pool : IsPool old) (over : IsOver (length
 
         by : (b : Bool) → list_any (node_eq.eq-value.it x) old ≡ b → Put old x id new
         by true c =
-            let f : new ≡ old = e ∙ ap (λ t. cond t old (old ++ x ∷ [])) c in
+            let f : new ≡ old = e ∙ ap (λ t. (if t then old else (old ++ x ∷ []))) c in
             record { puts = there (found old (stays old f)) f; pool = subst IsPool (sym f) pool }
         by false c =
-            let f : new ≡ old ++ x ∷ [] = e ∙ ap (λ t. cond t old (old ++ x ∷ [])) c in
+            let f : new ≡ old ++ x ∷ [] = e ∙ ap (λ t. (if t then old else (old ++ x ∷ []))) c in
             subst (Put old x id) (sym f) (new_put c (stays (old ++ x ∷ []) f))
 
 -- the id that `put` answers is one of the pool

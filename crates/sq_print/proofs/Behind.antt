@@ -1,5 +1,5 @@
 -- What is written behind a text is the printed form.
-use Rattle.std.proofs.Common.{◌≡◌, ◌+◌, ℕ, Bool, true, false, cond, ◌&&◌, nat_eq, List, []}
+use Rattle.std.proofs.Common.{◌≡◌, ◌+◌, ℕ, Bool, true, false, if◌then◌else◌, ◌&&◌, nat_eq, List, []}
 use Rattle.std.proofs.Common.{◌∷◌, ◌++◌, length, map, codes, append_assoc, append-nil, refl, sym}
 use Rattle.std.proofs.Common.{ap, subst, ◌∙◌, arith}
 use Rattle.std.proofs.lemmas.Bool.Decides.{nat_tests}
@@ -98,39 +98,41 @@ placed_behind : (p own : Form) (out x y : List ℕ) → y ≡ opened p own out +
 placed_behind p own out x y e = ap (closed p own) e ∙ by (fits own p)
   where
     by : (b : Bool)
-        → cond b (cond b out (out ++ codes "(") ++ x)
-        ((cond b out (out ++ codes "(") ++ x) ++ codes ")")
-        ≡ out ++ cond b x (codes "(" ++ (x ++ codes ")"))
+        → (if b then (if b then out
+        else (out ++ codes "(")) ++ x
+        else (((if b then out else (out ++ codes "(")) ++ x) ++ codes ")"))
+        ≡ out ++ (if b then x else (codes "(" ++ (x ++ codes ")")))
     by true = refl
     by false = simp append_assoc
 
 -- what a layout has before its k-th argument
 abbrev before : Layout → ℕ → List ℕ
 before Word k = []
-before (Infix l) k = cond (nat_eq k 0) [] (codes " " ++ (sign l ++ codes " "))
-before Pair k = cond (nat_eq k 0) (codes "<") (codes ",")
+before (Infix l) k = (if nat_eq k 0 then [] else (codes " " ++ (sign l ++ codes " ")))
+before Pair k = (if nat_eq k 0 then codes "<" else codes ",")
 before Conditional k =
-    cond (nat_eq k 0) (codes "if ") (cond (nat_eq k 1) (codes " then ") (codes " else "))
+    (if nat_eq k 0 then codes "if " else if nat_eq k 1 then codes " then " else codes " else ")
 
 before_behind : (l : Layout) (k : ℕ) (out : List ℕ) → wrote_before l k out ≡ out ++ before l k
 before_behind Word k out = sym (append-nil out)
 before_behind (Infix l) k out = by (nat_eq k 0)
   where
-    by : (b : Bool) → cond b out (((out ++ codes " ") ++ sign l) ++ codes " ")
-        ≡ out ++ cond b [] (codes " " ++ (sign l ++ codes " "))
+    by : (b : Bool) → (if b then out else (((out ++ codes " ") ++ sign l) ++ codes " "))
+        ≡ out ++ (if b then [] else (codes " " ++ (sign l ++ codes " ")))
     by true = sym (append-nil out)
     by false = simp append_assoc
 before_behind Pair k out = by (nat_eq k 0)
   where
-    by : (b : Bool) → cond b (out ++ codes "<") (out ++ codes ",")
-        ≡ out ++ cond b (codes "<") (codes ",")
+    by : (b : Bool) → (if b then out ++ codes "<" else (out ++ codes ","))
+        ≡ out ++ (if b then codes "<" else codes ",")
     by true = refl
     by false = refl
 before_behind Conditional k out = by (nat_eq k 0) (nat_eq k 1)
   where
     by : (b c : Bool)
-        → cond b (out ++ codes "if ") (cond c (out ++ codes " then ") (out ++ codes " else "))
-        ≡ out ++ cond b (codes "if ") (cond c (codes " then ") (codes " else "))
+        → (if b then out ++ codes "if "
+        else (if c then out ++ codes " then " else (out ++ codes " else ")))
+        ≡ out ++ (if b then codes "if " else if c then codes " then " else codes " else ")
     by true c = refl
     by false true = refl
     by false false = refl
@@ -188,7 +190,7 @@ by_counts P f n m word on_infix pair conditional =
     laid_out (declared k) e d = word
 
     by : (a : Bool) → nat_eq n 0 ≡ a → (b : Bool) → nat_eq m (arguments f) ≡ b
-        → P (cond (a && b) (layout f) Word)
+        → P (if a && b then layout f else Word)
     by true e true d =
         let none : n ≡ 0 = grind (arith, nat_tests) in
         let all : m ≡ arguments f = grind (arith, nat_tests) in
@@ -203,7 +205,7 @@ count_parts ns around (cons t ts) = let rest = count_parts ns around ts in omega
 
 -- arguments behind indices
 spaced_both : (xs ys : List (List ℕ)) → spaced (codes "(") (codes ",") (xs ++ ys)
-    ≡ spaced (codes "(") (codes ",") xs ++ spaced (cond (is_none xs) (codes "(") (codes ","))
+    ≡ spaced (codes "(") (codes ",") xs ++ spaced (if is_none xs then codes "(" else codes ",")
     (codes ",") ys
 spaced_both [] ys = refl
 spaced_both (x ∷ xs) ys = ap (λ r. codes "(" ++ (x ++ r)) (rest xs) ∙ simp append_assoc
@@ -227,7 +229,7 @@ called_behind ns around out word (i ∷ is) ts =
     (idx_texts ns around is ++ map (λ p. p.1) (part_texts ns around ts))
 
 first_is : (ns : Names) (around : List (List ℕ)) (is : List Idx)
-    → first_before is ≡ cond (is_none (idx_texts ns around is)) (codes "(") (codes ",")
+    → first_before is ≡ (if is_none (idx_texts ns around is) then codes "(" else codes ",")
 first_is ns around [] = refl
 first_is ns around (i ∷ is) = refl
 
@@ -294,7 +296,7 @@ function_behind ns around out f is ts parts arguments =
         ∙ ((λ i. indices_behind ns around (codes "(") (out ++ function_word ns f) is i ++ first i)
         ∙ (append_assoc (out ++ function_word ns f)
         (spaced (codes "(") (codes ",") (idx_texts ns around is))
-        (spaced (cond (is_none (idx_texts ns around is)) (codes "(") (codes ",")) (codes ",")
+        (spaced (if is_none (idx_texts ns around is) then codes "(" else codes ",") (codes ",")
         (map (λ p. p.1) (part_texts ns around ts)))
         ∙ ap (λ r. (out ++ function_word ns f) ++ r)
         (sym (spaced_both (idx_texts ns around is)

@@ -1,5 +1,6 @@
 -- The lines that are written behind a text are those of the goal's block.
-use Rattle.std.proofs.Common.{◌≡◌, ◌+◌, ◌<◌, arith, ℕ, Bool, true, false, cond, List, [], ◌∷◌, ◌++◌}
+use Rattle.std.proofs.Common.{◌≡◌, ◌+◌, ◌<◌, arith, ℕ, Bool, true, false, if◌then◌else◌, List, []}
+use Rattle.std.proofs.Common.{◌∷◌, ◌++◌}
 use Rattle.std.proofs.Common.{length, map, codes, append_assoc, append-nil, refl, sym, ap, ◌∙◌}
 use Rattle.std.specs.Fmt.{decimal}
 use Rattle.sq_base.specs.declared.sort.Sort.{Sort}
@@ -48,12 +49,12 @@ item_behind : (ns : Names) (out : List ℕ) (i : Item) → wrote_item ns out i �
 item_behind ns out (item a b) = by (is_same_tree a b)
   where
     by : (s : Bool)
-        → cond s (out ++ term_text ns [] a)
-        ((((out ++ codes "diff(") ++ term_text ns [] a) ++ codes ",") ++ term_text ns [] b ++ codes
-        ")")
-        ≡ out ++ cond s (term_text ns [] a)
-        (codes "diff(" ++
-        (term_text ns [] a ++ (codes "," ++ (term_text ns [] b ++ codes ")"))))
+        → (if s then out ++ term_text ns [] a
+        else ((((out ++ codes "diff(") ++ term_text ns [] a) ++ codes ",") ++ term_text ns [] b
+        ++ codes
+        ")"))
+        ≡ out ++ (if s then term_text ns [] a else (codes "diff(" ++
+        (term_text ns [] a ++ (codes "," ++ (term_text ns [] b ++ codes ")")))))
     by true = refl
     by false = simp append_assoc
 

@@ -1,9 +1,10 @@
 -- The name of a binder is free, and the first such.
 use Rattle.std.proofs.Common.{◌≡◌, ◌≢◌, ◌<◌, ◌≤◌, ◌+◌, ◌⊎◌, inl, inr, ℕ, zero, suc, Bool, true}
-use Rattle.std.proofs.Common.{false, cond, List, refl, ap, ◌∙◌, arith}
+use Rattle.std.proofs.Common.{false, if◌then◌else◌, List, refl, ap, ◌∙◌, arith}
 use Rattle.std.proofs.lemmas.Bool.{cases_eq}
 use Rattle.sq_base.specs.declared.sort.Sort.{Sort}
-use Rattle.sq_print.specs.Names.{Names, candidate, candidate_count, first_free, names_count}
+use Rattle.sq_print.specs.Names.{Names, first_free, names_count}
+use Rattle.sq_sym.specs.Candidates.{candidate, candidate_count}
 use Rattle.sq_print.specs.Names.{binder_name, stem}
 use Rattle.sq_print.specs.FreeNames.{is_taken, IsFirstFree}
 use Rattle.sq_print.proofs.Supplied.{few}
@@ -41,7 +42,7 @@ free_or_all ns around s (suc left) j before =
         → (((i : ℕ) → i < j + 1 → is_taken_at ns around s i ≡ true)
         → IsFirst ns around s (first_free ns around s left (j + 1)) (j + 1 + left) ⊎
         ((i : ℕ) → i < j + 1 + left + 1 → is_taken_at ns around s i ≡ true))
-        → IsFirst ns around s (cond b (first_free ns around s left (j + 1)) (candidate s j))
+        → IsFirst ns around s (if b then first_free ns around s left (j + 1) else candidate s j)
         (j + suc left) ⊎ ((i : ℕ) → i < j + suc left + 1 → is_taken_at ns around s i ≡ true)
     by false e rest =
         inl (record { k = j; within = omega arith; is = refl; free = e; before = before })

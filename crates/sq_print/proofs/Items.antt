@@ -1,5 +1,6 @@
 -- An item is written as one term where its sides are the same, and as both otherwise.
-use Rattle.std.proofs.Common.{◌≡◌, ℕ, Bool, true, false, cond, List, [], ◌++◌, codes, refl, sym, ap}
+use Rattle.std.proofs.Common.{◌≡◌, ℕ, Bool, true, false, if◌then◌else◌, List, [], ◌++◌, codes, refl}
+use Rattle.std.proofs.Common.{sym, ap}
 use Rattle.std.proofs.Common.{◌∙◌}
 use Rattle.sq_term.specs.declared.term.Term.{Term}
 use Rattle.sq_term.specs.TreeEquality.{is_same_tree}
@@ -17,7 +18,7 @@ one_side ns out a b e =
     let both =
     ((((out ++ codes "diff(") ++ term_text ns [] (term_tree a)) ++ codes ",") ++ term_text ns []
     (term_tree b)) ++ codes ")" in
-    sym (ap (λ s. cond s one both) ((is_same_term-decides a b).1 e))
+    sym (ap (λ s. (if s then one else both)) ((is_same_term-decides a b).1 e))
 
 pub two_sides : (ns : Names) (out p q r s t : List ℕ) (a b : Term) → (a ≡ b → ⊥)
     → p ≡ out ++ codes "diff(" → q ≡ p ++ term_text ns [] (term_tree a) → r ≡ q ++ codes ","
@@ -36,8 +37,9 @@ two_sides ns out p q r s t a b ne ep eq er es et =
 
     by : (same : Bool) → is_same_tree (term_tree a) (term_tree b) ≡ same
         → (((((out ++ codes "diff(") ++ term_text ns [] (term_tree a)) ++ codes ",") ++ term_text ns
-        [] (term_tree b)) ++ codes ")") ≡ cond same (out ++ term_text ns [] (term_tree a))
-        (((((out ++ codes "diff(") ++ term_text ns [] (term_tree a)) ++ codes ",") ++ term_text ns
-        [] (term_tree b)) ++ codes ")")
+        [] (term_tree b)) ++ codes ")") ≡ (if same then out ++ term_text ns [] (term_tree a)
+        else (((((out ++ codes "diff(") ++ term_text ns [] (term_tree a)) ++ codes ",")
+        ++ term_text ns
+        [] (term_tree b)) ++ codes ")"))
     by true e = absurd (ne ((is_same_term-decides a b).0 e))
     by false e = refl

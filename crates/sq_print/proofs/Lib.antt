@@ -1,6 +1,5 @@
 pub mod Noted
 pub mod Words
-pub mod Candidates
 pub mod TakenNames
 pub mod Supplied
 pub mod FreeNames

@@ -1,6 +1,7 @@
 -- The next free name of a supply is the name of the next binder.
 use Rattle.std.proofs.Common.{◌≡◌, ◌≢◌, ◌<◌, ◌≤◌, ◌+◌, ◌^◌, ◌⊎◌, inl, inr, ℕ, zero, suc, Bool, true}
-use Rattle.std.proofs.Common.{false, cond, not, ◌&&◌, ◌||◌, nat_eq, nat_lt, List, [], ◌∷◌, ◌++◌}
+use Rattle.std.proofs.Common.{false, if◌then◌else◌, not, ◌&&◌, ◌||◌, nat_eq, nat_lt, List, [], ◌∷◌}
+use Rattle.std.proofs.Common.{◌++◌}
 use Rattle.std.proofs.Common.{length, Option, Some, None, option_map, is_some, slice_get, map, take}
 use Rattle.std.proofs.Common.{refl, sym, ap, ◌∙◌, subst, arith, length-append, ⊎_elim}
 use Rattle.std.specs.Str.{bytes_eq}
@@ -12,14 +13,15 @@ use Rattle.std.proofs.Math.Seq.{take-append_seam}
 use Rattle.sq_sym.specs.declared.symbol.Symbol.{Symbol}
 use Rattle.sq_sym.specs.Declarations.{found}
 use Rattle.sq_base.specs.declared.sort.Sort.{Sort}
-use Rattle.sq_print.specs.Names.{Names, candidate, candidate_count, among, is_used, first_free}
+use Rattle.sq_print.specs.Names.{Names, is_used, first_free}
+use Rattle.sq_sym.specs.Candidates.{candidate, candidate_count, among}
 use Rattle.sq_print.specs.Names.{names_count, binder_name, stem}
 use Rattle.sq_base.specs.declared.sort.Sort.TheVariants.{Index, Timestamp, Message, Boolean}
 use Rattle.sq_print.specs.declared.binders.Binders.{Binders}
 use Rattle.sq_print.specs.declared.binders.Supply.{Supply}
 use Rattle.sq_print.specs.Supplies.{free_names, HasFirst, IsSupply, IsAround, Kept, Released}
 use Rattle.sq_print.specs.declared.binders.Mark.{Mark}
-use Rattle.sq_print.proofs.Candidates.{candidate-injective, differ, equal, bounded, other_stem}
+use Rattle.sq_sym.proofs.Candidates.{candidate-injective, differ, equal, bounded, other_stem}
 
 -- a candidate that is not used, and how many free ones are before it
 pub record IsFree (ns : Names) (s : List ℕ) (n d : ℕ) (x : List ℕ) : Type 0 where
@@ -46,7 +48,7 @@ nth_free ns s (suc n) d x e = by (is_used ns (candidate s n)) refl e (λ h. nth_
     more f = record { k = f.k; below = omega arith; is = f.is; unused = f.unused; rank = f.rank }
 
     by : (b : Bool) → is_used ns (candidate s n) ≡ b
-        → slice_get (cond b (free_names ns s n) (free_names ns s n ++ candidate s n ∷ [])) d
+        → slice_get (if b then free_names ns s n else (free_names ns s n ++ candidate s n ∷ [])) d
         ≡ Some x
         → (slice_get (free_names ns s n) d ≡ Some x → IsFree ns s n d x) → IsFree ns s (suc n) d x
     by true u h rest = more (rest h)
@@ -65,7 +67,7 @@ rank_grows ns s j (suc k) lt u =
     by : (b : Bool) → is_used ns (candidate s k) ≡ b → (j ≡ k) ⊎ (j ≢ k)
         → (j < k → length (free_names ns s j) < length (free_names ns s k))
         → length (free_names ns s j) < length
-        (cond b (free_names ns s k) (free_names ns s k ++ candidate s k ∷ []))
+        (if b then free_names ns s k else (free_names ns s k ++ candidate s k ∷ []))
     by true b (inl e) rest =
         absurd (false≢true (sym u ∙ (ap (λ n. is_used ns (candidate s n)) e ∙ b)))
     by true b (inr ne) rest = rest (omega arith)
@@ -88,7 +90,7 @@ first_from ns around s (suc left) j k low high taken free =
   where
     by : (b : Bool) → (is_used ns (candidate s j) || among (candidate s j) around) ≡ b
         → (j ≡ k) ⊎ (j ≢ k) → (j + 1 ≤ k → first_free ns around s left (j + 1) ≡ candidate s k)
-        → cond b (first_free ns around s left (j + 1)) (candidate s j) ≡ candidate s k
+        → (if b then first_free ns around s left (j + 1) else candidate s j) ≡ candidate s k
     by true t (inl e) rest =
         absurd (false≢true
         (sym free
@@ -104,7 +106,7 @@ found_among q [] = refl
 found_among q (d ∷ ds) = by (bytes_eq q d.0) (found q ds) (found_among q ds)
   where
     by : (b : Bool) (o : Option (ℕ × Symbol)) → is_some o ≡ among q (map (λ d. d.0) ds)
-        → is_some {T = ℕ × Symbol} (cond b (Some (0, d.1)) (option_map (λ r. (r.0 + 1, r.1)) o))
+        → is_some {T = ℕ × Symbol} (if b then Some (0, d.1) else option_map (λ r. (r.0 + 1, r.1)) o)
         ≡ (b || among q (map (λ d. d.0) ds))
     by true o e = refl
     by false None e = e
@@ -260,12 +262,12 @@ taken_other ns s around d x apart has = record {
 -- one more candidate is tried
 pub tried_more : (ns : Names) (s : List ℕ) (p q : Supply) (x : List ℕ) → IsSupply ns s p
     → q.tried < 2 ^ 32 → q.tried ≡ p.tried + 1 → x ≡ candidate s p.tried
-    → q.found ≡ cond (is_used ns x) p.found (p.found ++ x ∷ []) → IsSupply ns s q
+    → q.found ≡ (if is_used ns x then p.found else (p.found ++ x ∷ [])) → IsSupply ns s q
 tried_more ns s p q x is within tried name found =
     let next : q.tried ≡ suc p.tried = omega arith in
     record {
       found = found
-          ∙ ((λ i. cond (is_used ns (name i)) (is.found i) (is.found i ++ name i ∷ []))
+          ∙ ((λ i. (if is_used ns (name i) then is.found i else (is.found i ++ name i ∷ [])))
           ∙ ap (free_names ns s) (sym next));
       within = within;
     }

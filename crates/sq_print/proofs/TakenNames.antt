@@ -1,10 +1,11 @@
 -- One more name in the set of those that are taken.
-use Rattle.std.proofs.Common.{◌≡◌, ℕ, Bool, true, false, cond, ◌||◌, List, ◌∷◌, refl, sym, ap, ◌∙◌}
+use Rattle.std.proofs.Common.{◌≡◌, ℕ, Bool, true, false, if◌then◌else◌, ◌||◌, List, ◌∷◌, refl, sym}
+use Rattle.std.proofs.Common.{ap, ◌∙◌}
 use Rattle.std.specs.Str.{bytes_eq}
 use Rattle.std.proofs.lemmas.Bool.{false≢true}
 use Rattle.std.proofs.lemmas.Slice.Eq.{bytes_eq-Decides}
-use Rattle.sq_print.specs.Names.{among}
-use Rattle.sq_print.proofs.Candidates.{differ, equal}
+use Rattle.sq_sym.specs.Candidates.{among}
+use Rattle.sq_sym.proofs.Candidates.{differ, equal}
 
 bytes_eq-sym : (x y : List ℕ) → bytes_eq x y ≡ bytes_eq y x
 bytes_eq-sym x y = by (bytes_eq y x) refl
@@ -15,12 +16,13 @@ bytes_eq-sym x y = by (bytes_eq y x) refl
 
 -- a name is in the set, or in the rest of the list
 pub one_taken : (x q : List ℕ) (rest : List (List ℕ)) (old new : Bool)
-    → new ≡ cond (bytes_eq x q) true old → (new || among q rest) ≡ (old || among q (x ∷ rest))
+    → new ≡ (if bytes_eq x q then true else old) → (new || among q rest)
+    ≡ (old || among q (x ∷ rest))
 one_taken x q rest old new e =
-    ap (λ b. b || among q rest) (e ∙ ap (λ b. cond b true old) (bytes_eq-sym x q))
+    ap (λ b. b || among q rest) (e ∙ ap (λ b. (if b then true else old)) (bytes_eq-sym x q))
     ∙ by (bytes_eq q x) old
   where
-    by : (b o : Bool) → (cond b true o || among q rest) ≡ (o || (b || among q rest))
+    by : (b o : Bool) → ((if b then true else o) || among q rest) ≡ (o || (b || among q rest))
     by true true = refl
     by true false = refl
     by false true = refl

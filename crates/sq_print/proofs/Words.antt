@@ -1,5 +1,6 @@
 -- The name at the place of a symbol is the name of its first declaration.
-use Rattle.std.proofs.Common.{◌≡◌, ◌+◌, ℕ, Bool, true, false, cond, List, [], ◌∷◌, ◌++◌, Some}
+use Rattle.std.proofs.Common.{◌≡◌, ◌+◌, ℕ, Bool, true, false, if◌then◌else◌, List, [], ◌∷◌, ◌++◌}
+use Rattle.std.proofs.Common.{Some}
 use Rattle.std.proofs.Common.{slice_get, length, nat_eq, append_assoc, length-append, refl, ap, ◌∙◌}
 use Rattle.std.specs.HashMap.{get}
 use Rattle.sq_sym.specs.declared.symbol.Symbol.{Symbol}
@@ -27,8 +28,8 @@ word_behind test front (d ∷ ds) = by (test d.1) (word_behind test (front ++ d 
         → word_at ((front ++ d ∷ []) ++ ds) (place_from (length (front ++ d ∷ [])) test ds)
         ≡ spelling test ds
         → word_at (front ++ d ∷ ds)
-        (cond b (Some (length front)) (place_from (length front + 1) test ds))
-        ≡ cond b d.0 (spelling test ds)
+        (if b then Some (length front) else place_from (length front + 1) test ds)
+        ≡ (if b then d.0 else spelling test ds)
     by true next = rw (here front d ds) refl
     by false next = rw (append_assoc, longer front d) at next
 

@@ -1,6 +1,7 @@
 -- Names that a binder may take.
 use Rattle.std.specs.Prelude.{◌≡◌, ◌<◌, ◌||◌, ℕ, Bool, true, false, List}
-use Rattle.sq_print.specs.Names.{Names, is_used, among, candidate}
+use Rattle.sq_print.specs.Names.{Names, is_used}
+use Rattle.sq_sym.specs.Candidates.{among, candidate}
 
 -- a symbol of the table, a variable, a schema variable or a binder around has the name
 abbrev pub is_taken : Names → List (List ℕ) → List ℕ → Bool

@@ -1,16 +1,14 @@
 -- The names that a text is printed with.
-use Rattle.std.specs.Prelude.{ℕ, zero, suc, ◌+◌, ◌^◌, Bool, false, ◌&&◌, ◌||◌, nat_eq, List, []}
+use Rattle.std.specs.Prelude.{ℕ, zero, suc, ◌+◌, Bool, false, ◌&&◌, ◌||◌, nat_eq, List, []}
 use Rattle.std.specs.Prelude.{◌∷◌, ◌++◌, length, unwrap_or, is_some, slice_get}
 use Rattle.std.specs.Prelude.{codes, if◌then◌else◌}
-use Rattle.std.specs.Str.{bytes_eq}
-use Rattle.std.specs.Fmt.{decimal}
-use Rattle.std.specs.List.{list_any}
 use Rattle.sq_base.specs.declared.sort.Sort.{Sort}
 use Rattle.sq_base.specs.declared.sort.Sort.TheVariants as sort
 use Rattle.sq_term.specs.Builtins.{word}
 use Rattle.sq_term.specs.Symbols.{Kind, function_number}
 use Rattle.sq_sym.specs.declared.symbol.Symbol.{Symbol}
 use Rattle.sq_sym.specs.declared.symbol.Symbol.TheVariants as symbol
+use Rattle.sq_sym.specs.Candidates.{candidate, among}
 use Rattle.sq_sym.specs.Declarations.{found}
 
 -- the names of the schema variables and of the variables, the number of the system, and the table
@@ -51,10 +49,6 @@ action_word ns a = spelling (is_action ns.system a) ns.table
 unfoldable pub function_word : Names → Kind → List ℕ
 function_word ns f = unwrap_or (word f) (spelling (is_function (function_number f)) ns.table)
 
--- whether a text is one of these names
-abbrev pub among : List ℕ → List (List ℕ) → Bool
-among text names = list_any (bytes_eq text) names
-
 -- whether a text is a symbol of the table, a variable or a schema variable
 abbrev pub is_used : Names → List ℕ → Bool
 is_used ns text = is_some (found text ns.table) || (among text ns.vars || among text ns.schemas)
@@ -65,14 +59,6 @@ stem sort.Timestamp = codes "t"
 stem sort.Index = codes "i"
 stem sort.Message = codes "i"
 stem sort.Boolean = codes "i"
-
--- the stem, then the stem and 1, the stem and 2, and so on
-abbrev pub candidate : List ℕ → ℕ → List ℕ
-candidate s k = if nat_eq k 0 then s else s ++ decimal k
-
--- so many candidates of a stem differ, as a number is written with 64 digits at most
-abbrev pub candidate_count : ℕ
-candidate_count = 10 ^ 64
 
 -- the first candidate from the k-th on that is neither used nor the name of a binder around,
 -- or the last of so many

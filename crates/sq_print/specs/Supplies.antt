@@ -5,7 +5,8 @@ use Rattle.sq_base.specs.declared.sort.Sort.TheVariants.{Index, Timestamp}
 use Rattle.sq_print.specs.declared.binders.Supply.{Supply}
 use Rattle.sq_print.specs.declared.binders.Binders.{Binders}
 use Rattle.sq_print.specs.declared.binders.Mark.{Mark}
-use Rattle.sq_print.specs.Names.{Names, is_used, among, candidate, stem}
+use Rattle.sq_print.specs.Names.{Names, is_used, stem}
+use Rattle.sq_sym.specs.Candidates.{among, candidate}
 
 -- those of the first candidates that are not used
 abbrev pub free_names : Names → List ℕ → ℕ → List (List ℕ)

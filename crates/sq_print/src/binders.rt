@@ -1,6 +1,6 @@
 // The names of bound variables.
 ghost use Rattle.std.specs.Prelude.{◌≡◌, ◌+◌, ◌<◌, [], ◌∷◌, ◌++◌, IfOk, OnOk, Some, length};
-ghost use Rattle.std.specs.Prelude.{slice_get, drop, string_bytes, if◌then◌else◌};
+ghost use Rattle.std.specs.Prelude.{slice_get, string_bytes, if◌then◌else◌};
 ghost use Rattle.std.specs.Fmt.{decimal};
 ghost use Rattle.sq_print.specs.Names as spec;
 ghost use Rattle.sq_print.specs.Names.{Names};
@@ -9,6 +9,7 @@ ghost use Rattle.sq_print.specs.Scopes.{names_of};
 
 use crate::scope::Scope;
 use sq_base::{NoMemory, Seq, Sort, Text};
+use sq_sym::candidate;
 use std::alloc::Global;
 
 /// The names that binders of one sort take in turn: those of a stem, the stem and 1, the stem and 2
@@ -171,18 +172,6 @@ fn stem(sort: Sort) -> &'static str
         Sort::Timestamp => "t",
         Sort::Index | Sort::Message | Sort::Boolean => "i",
     }
-}
-
-fn candidate(alloc: Global, stem: &str, k: u32) -> Result<Text, NoMemory>
-    ensures { IfOk result (λ t. t ≡ spec.candidate stem.now k) }
-{
-    let mut name = Text::from_str(alloc, stem)?;
-    if k == 0 {
-        return Ok(name);
-    }
-    let number = number_text(alloc, k as usize)?;
-    name.push_str(number.as_str())?;
-    Ok(name)
 }
 
 /// A number in decimal digits.

@@ -1,7 +1,8 @@
 // Which name a bound variable has.
 ghost use Rattle.std.specs.Prelude.{◌<◌, ℕ, List};
 ghost use Rattle.sq_base.specs.declared.sort.Sort.{Sort};
-ghost use Rattle.sq_print.specs.Names.{Names, candidate_count, names_count, binder_name, stem};
+ghost use Rattle.sq_print.specs.Names.{Names, names_count, binder_name, stem};
+ghost use Rattle.sq_sym.specs.Candidates.{candidate_count};
 ghost use Rattle.sq_print.specs.FreeNames.{IsFirstFree};
 
 /// A bound variable has the first name of its stem that stands for nothing else where it is bound:

@@ -1,7 +1,7 @@
 // The names that no binder may have.
 ghost use Rattle.std.specs.Prelude.{◌≡◌, ◌||◌, ℕ, List, IfOk, OnOk};
 ghost use Rattle.std.specs.HashSet.{contains_text};
-ghost use Rattle.sq_print.specs.Names.{among};
+ghost use Rattle.sq_sym.specs.Candidates.{among};
 ghost use Rattle.sq_print.specs.Taken.{HasNames};
 
 use sq_base::{NoMemory, Seq, Text};

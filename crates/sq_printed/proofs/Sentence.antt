@@ -1,5 +1,6 @@
 -- With a stop behind it, the text of a syntax tree is one sentence.
-use Rattle.std.proofs.Common.{◌≡◌, ℕ, Bool, true, false, cond, List, [], ◌∷◌, ◌++◌, map, codes}
+use Rattle.std.proofs.Common.{◌≡◌, ℕ, Bool, true, false, if◌then◌else◌, List, [], ◌∷◌, ◌++◌, map}
+use Rattle.std.proofs.Common.{codes}
 use Rattle.std.proofs.Common.{Some, Result, Ok, Err, append_assoc, append-nil, refl, sym, ap, ◌∙◌}
 use Rattle.std.specs.Prelude.{⊤, nat_lt}
 use Rattle.std.specs.List.{list_all}
@@ -272,8 +273,8 @@ one_sentence source since [] (t ∷ []) h e =
     record {
       line = sentence source since t;
       found_is = ap
-          (λ b. cond b (prepend (sentence source since t) (cut source [] []))
-          (cut source (since ++ t ∷ []) [])) stop;
+          (λ b. (if b then prepend (sentence source since t) (cut source [] [])
+          else cut source (since ++ t ∷ []) [])) stop;
       signs_are = sym (append-nil (map sign_at since));
     }
 one_sentence source since (s ∷ ss) (t ∷ ts) h e =
@@ -288,8 +289,8 @@ one_sentence source since (s ∷ ss) (t ∷ ts) h e =
     record {
       line = inner.line;
       found_is =
-          ap (λ b. cond b (prepend (sentence source since t) (cut source [] ts))
-          (cut source (since ++ t ∷ []) ts)) stop ∙ inner.found_is;
+          ap (λ b. (if b then prepend (sentence source since t) (cut source [] ts)
+          else cut source (since ++ t ∷ []) ts)) stop ∙ inner.found_is;
       signs_are = inner.signs_are ∙ signs;
     }
 
@@ -314,8 +315,8 @@ text_sentence f h =
     record {
       line = made.line;
       found_is = ap
-          (λ b. cond b (cut_all source [] (lexemes 0 0 source))
-          (Err (fault.NotUtf8 (utf8_valid_len source)))) valid
+          (λ b. (if b then cut_all source [] (lexemes 0 0 source)
+          else Err (fault.NotUtf8 (utf8_valid_len source)))) valid
           ∙ made.found_is;
       signs_are = made.signs_are;
     }

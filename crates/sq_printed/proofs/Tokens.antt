@@ -1,6 +1,7 @@
 -- A token at the front of a text is read as it stands, where what follows does not prolong it.
 use Rattle.std.proofs.Common.{◌≡◌, ◌≢◌, ℕ, ◌+◌, ◌<◌, Bool, true, false, ◌&&◌, ◌==◌, nat_eq, nat_lt}
-use Rattle.std.proofs.Common.{cond, List, [], ◌∷◌, ◌++◌, map, Option, Some, None, Result, Ok, Err}
+use Rattle.std.proofs.Common.{if◌then◌else◌, List, [], ◌∷◌, ◌++◌, map, Option, Some, None, Result}
+use Rattle.std.proofs.Common.{Ok, Err}
 use Rattle.std.proofs.Common.{is_none, length, drop, slice_index, refl, ap, ◌∙◌, sym, arith}
 use Rattle.std.proofs.Common.{encode_utf8, encode_utf8_all, length-append}
 use Rattle.std.specs.Bool.{⊤}
@@ -212,11 +213,10 @@ name_piece n (b ∷ bs) h e =
 
     by : (t o s : Bool) → is_blank b ≡ t → opens b (slice_index bs 0) ≡ o
         → nat_lt 0 (name_len (chars (b ∷ bs))) ≡ s
-        → cond t (Spacing 1)
-        (cond o (commented (comment_len 0 2 (drop 1 bs)))
-        (cond s (pieces.word (name_len (chars (b ∷ bs))) (b ∷ bs))
-        (cond (is_ascii_digit b) (digits (prefix_len is_ascii_digit (b ∷ bs)) (b ∷ bs))
-        (symbol (symbol_at (b ∷ bs)))))) ≡ pieces.word n (b ∷ bs)
+        → (if t then Spacing 1 else if o then commented (comment_len 0 2 (drop 1 bs)) else if s
+        then pieces.word (name_len (chars (b ∷ bs))) (b ∷ bs) else if is_ascii_digit b
+        then digits (prefix_len is_ascii_digit (b ∷ bs)) (b ∷ bs)
+        else symbol (symbol_at (b ∷ bs))) ≡ pieces.word n (b ∷ bs)
     by true o s f g k = absurd (none (grind (arith, nat_tests)) (blank_no_start b f))
     by false true s f g k =
         absurd (none (grind (arith, nat_tests)) (open_no_start b (slice_index bs 0) g))

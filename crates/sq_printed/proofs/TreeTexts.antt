@@ -1,6 +1,7 @@
 -- What is printed is the text of a syntax tree of the grammar.
 use Rattle.std.proofs.Common.{◌≡◌, ◌≢◌, ◌≤◌, ◌<◌, ℕ, zero, suc, Bool, true, false}
-use Rattle.std.proofs.Common.{cond, nat_le, List, [], ◌∷◌, ◌++◌, Option, Some, None, length}
+use Rattle.std.proofs.Common.{if◌then◌else◌, nat_le, List, [], ◌∷◌, ◌++◌, Option, Some, None}
+use Rattle.std.proofs.Common.{length}
 use Rattle.std.proofs.Common.{map, codes, append_assoc, append-nil, refl, sym, ap, ◌∙◌}
 use Rattle.std.proofs.Common.{arith}
 use Rattle.std.proofs.lemmas.Bool.Decides.{nat_tests}
@@ -113,12 +114,12 @@ placed_text : (at : Form) (a : FormulaTree) (p : Form × List ℕ) → tree_rank
 placed_text at a p r t = on (nat_le (tree_rank a) (rank at)) refl
   where
     on : (b : Bool) → nat_le (tree_rank a) (rank at) ≡ b
-        → text_of (cond b a (tree.group a)) ≡ placed at p
+        → text_of (if b then a else tree.group a) ≡ placed at p
     on true e = let same : fits p.0 at ≡ true = ap (λ n. nat_le n (rank at)) (sym r) ∙ e in t
-        ∙ sym (ap (λ b. cond b p.1 (codes "(" ++ (p.1 ++ codes ")"))) same)
+        ∙ sym (ap (λ b. (if b then p.1 else (codes "(" ++ (p.1 ++ codes ")")))) same)
     on false e = let same : fits p.0 at ≡ false = ap (λ n. nat_le n (rank at)) (sym r) ∙ e in
         ap (λ x. codes "(" ++ (x ++ codes ")")) t
-        ∙ sym (ap (λ b. cond b p.1 (codes "(" ++ (p.1 ++ codes ")"))) same)
+        ∙ sym (ap (λ b. (if b then p.1 else (codes "(" ++ (p.1 ++ codes ")")))) same)
 
 -- parts of two trees, and of three
 two_parts : (P : FormulaTrees → List (Form × List ℕ) → Type 0)
@@ -404,14 +405,14 @@ in_place_form : (at : Form) (t : FormulaTree) → tree_rank (in_place at t) ≤ 
 in_place_form at t = on (nat_le (tree_rank t) (rank at)) refl
   where
     on : (b : Bool) → nat_le (tree_rank t) (rank at) ≡ b
-        → tree_rank (cond b t (tree.group t)) ≤ rank at
+        → tree_rank (if b then t else tree.group t) ≤ rank at
     on true e = grind (arith, nat_tests)
     on false e = omega arith
 
 in_place_built : (at : Form) (t : FormulaTree) → IsBuilt t → IsBuilt (in_place at t)
 in_place_built at t h = on (nat_le (tree_rank t) (rank at))
   where
-    on : (b : Bool) → IsBuilt (cond b t (tree.group t))
+    on : (b : Bool) → IsBuilt (if b then t else tree.group t)
     on true = h
     on false = h
 

@@ -1,6 +1,7 @@
 -- The names of binders differ from each other and from all other names.
 use Rattle.std.proofs.Common.{◌≡◌, ◌≢◌, ◌<◌, ◌≤◌, ◌+◌, ℕ, zero, suc, Bool, true}
-use Rattle.std.proofs.Common.{false, cond, ◌||◌, List, [], ◌∷◌, ◌++◌, length, map, reverse, Option}
+use Rattle.std.proofs.Common.{false, if◌then◌else◌, ◌||◌, List, [], ◌∷◌, ◌++◌, length, map, reverse}
+use Rattle.std.proofs.Common.{Option}
 use Rattle.std.proofs.Common.{Some, None, slice_get, refl, sym, ap, ◌∙◌, subst, arith}
 use Rattle.std.proofs.Common.{length-append}
 use Rattle.std.specs.Str.{bytes_eq}
@@ -10,9 +11,10 @@ use Rattle.sq_base.specs.declared.sort.Sort.{Sort}
 use Rattle.sq_token.specs.Kinds.{IsIdentifier}
 use Rattle.sq_term.proofs.SameTrees.{is_same_sort-decides}
 use Rattle.sq_typing.specs.Typing.{has_sort_at}
-use Rattle.sq_print.specs.Names.{Names, candidate, candidate_count, among, is_used, names_count}
+use Rattle.sq_print.specs.Names.{Names, is_used, names_count}
+use Rattle.sq_sym.specs.Candidates.{candidate, candidate_count, among}
 use Rattle.sq_print.specs.Names.{binder_name, stem}
-use Rattle.sq_print.proofs.Candidates.{differ, equal}
+use Rattle.sq_sym.proofs.Candidates.{differ, equal}
 use Rattle.sq_print.proofs.FreeNames.{binder_free}
 use Rattle.sq_resolve.specs.Scopes.{Variable, last_from, last_of}
 use Rattle.sq_readback.proofs.Standing.{Bound, StandAround}
@@ -20,15 +22,15 @@ use Rattle.sq_readback.proofs.Standing.{Bound, StandAround}
 -- ---- places of names
 
 last_pushed : (k : ℕ) (best : Option (ℕ × Sort)) (x : List ℕ) (bs : List Variable) (v : Variable)
-    → last_from k best x (bs ++ v ∷ []) ≡ cond (bytes_eq x v.0) (Some (k + length bs, v.1))
-    (last_from k best x bs)
+    → last_from k best x (bs ++ v ∷ [])
+    ≡ (if bytes_eq x v.0 then Some (k + length bs, v.1) else last_from k best x bs)
 last_pushed k best x [] v = let e : k ≡ k + 0 =
-    omega arith in ap (λ n. cond (bytes_eq x v.0) (Some (n, v.1)) best) e
+    omega arith in ap (λ n. (if bytes_eq x v.0 then Some (n, v.1) else best)) e
 last_pushed k best x (b ∷ bs) v =
     let e : k + 1 + length bs ≡ k + suc (length bs) = omega arith in
-    let rest = cond (bytes_eq x b.0) (Some (k, b.1)) best in
+    let rest = (if bytes_eq x b.0 then Some (k, b.1) else best) in
     last_pushed (k + 1) rest x bs v
-    ∙ ap (λ n. cond (bytes_eq x v.0) (Some (n, v.1)) (last_from (k + 1) rest x bs)) e
+    ∙ ap (λ n. (if bytes_eq x v.0 then Some (n, v.1) else last_from (k + 1) rest x bs)) e
 
 last_none : (k : ℕ) (x : List ℕ) (bs : List Variable) → among x (map (λ v. v.0) bs) ≡ false
     → last_from k None x bs ≡ None
@@ -37,7 +39,7 @@ last_none k x (b ∷ bs) e = by (bytes_eq x b.0) e (λ h. last_none (k + 1) x bs
   where
     by : (t : Bool) → (t || among x (map (λ v. v.0) bs)) ≡ false
         → (among x (map (λ v. v.0) bs) ≡ false → last_from (k + 1) None x bs ≡ None)
-        → last_from (k + 1) (cond t (Some (k, b.1)) None) x bs ≡ None
+        → last_from (k + 1) (if t then Some (k, b.1) else None) x bs ≡ None
     by true h rest = cc
     by false h rest = rest h
 
@@ -63,7 +65,7 @@ one_around ns bs ss x s st fresh = record { inner = inner; unused = unused }
     other : (y : List ℕ) → y ≢ x → last_of y (bs ++ (x, s) ∷ []) ≡ last_of y bs
     other y ne =
         last_pushed 0 None y bs (x, s)
-        ∙ ap (λ b. cond b (Some (0 + length bs, s)) (last_of y bs)) (differ y x ne)
+        ∙ ap (λ b. (if b then Some (0 + length bs, s) else last_of y bs)) (differ y x ne)
 
     inner : (k : ℕ) (r : Sort) → has_sort_at (s ∷ ss) k r ≡ true → Bound (bs ++ (x, s) ∷ []) k r
     inner zero r h =
@@ -72,7 +74,7 @@ one_around ns bs ss x s st fresh = record { inner = inner; unused = unused }
         let from_zero : 0 + length bs ≡ length bs = omega arith in
         let last =
         last_pushed 0 None x bs (x, s)
-        ∙ ap (λ b. cond b (Some (0 + length bs, s)) (last_of x bs)) (equal x x refl) in
+        ∙ ap (λ b. (if b then Some (0 + length bs, s) else last_of x bs)) (equal x x refl) in
         record {
           x = x;
           place = length bs;

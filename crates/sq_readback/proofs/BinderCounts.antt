@@ -1,5 +1,6 @@
 -- A term binds no more variables than its printed form has bytes.
-use Rattle.std.proofs.Common.{◌≡◌, ◌<◌, ◌≤◌, ◌+◌, ◌^◌, ℕ, zero, suc, Bool, true, false, cond}
+use Rattle.std.proofs.Common.{◌≡◌, ◌<◌, ◌≤◌, ◌+◌, ◌^◌, ℕ, zero, suc, Bool, true, false}
+use Rattle.std.proofs.Common.{if◌then◌else◌}
 use Rattle.std.proofs.Common.{◌||◌, nat_eq, List, [], ◌∷◌, ◌++◌, length, map, codes, ap, ◌∙◌}
 use Rattle.std.proofs.Common.{arith, length-append}
 use Rattle.std.proofs.lemmas.List.{length-map}
@@ -17,7 +18,8 @@ use Rattle.sq_term.specs.Syntax.{happens, all, some, find, TermTrees, nil, cons}
 use Rattle.sq_print.specs.declared.form.Form.{Form}
 use Rattle.sq_print.specs.declared.form.Form.TheVariants as form
 use Rattle.sq_print.specs.Forms.{fits, form_of, left_form, right_form, layout_of}
-use Rattle.sq_print.specs.Names.{Names, is_used, among, candidate, first_free, binder_name}
+use Rattle.sq_print.specs.Names.{Names, is_used, first_free, binder_name}
+use Rattle.sq_sym.specs.Candidates.{candidate, among}
 use Rattle.sq_print.specs.Names.{bound_names, function_word, names_count, stem}
 use Rattle.sq_print.specs.Printed.{joined, call, placed, laid, by_layout, idx_texts, quantified}
 use Rattle.sq_print.specs.Printed.{sort_text, term_text, part_texts}
@@ -66,7 +68,7 @@ call_bytes word (x ∷ xs) =
 placed_bytes : (at : Form) (p : Form × List ℕ) → length p.1 ≤ length (placed at p)
 placed_bytes at p = by (fits p.0 at)
   where
-    by : (b : Bool) → length p.1 ≤ length (cond b p.1 (codes "(" ++ (p.1 ++ codes ")")))
+    by : (b : Bool) → length p.1 ≤ length (if b then p.1 else (codes "(" ++ (p.1 ++ codes ")")))
     by true = own p.1
     by false =
         behind (codes "(") (p.1 ++ codes ")") (length p.1)
@@ -77,7 +79,7 @@ placed_bytes at p = by (fits p.0 at)
 candidate_some : (s : List ℕ) (k : ℕ) → 1 ≤ length s → 1 ≤ length (candidate s k)
 candidate_some s k h = by (nat_eq k 0)
   where
-    by : (b : Bool) → 1 ≤ length (cond b s (s ++ decimal k))
+    by : (b : Bool) → 1 ≤ length (if b then s else (s ++ decimal k))
     by true = h
     by false = before s (decimal k) 1 h
 
@@ -89,7 +91,7 @@ first_some_byte ns around s (suc left) k h =
     (first_some_byte ns around s left (k + 1) h)
   where
     by : (b : Bool) → 1 ≤ length (first_free ns around s left (k + 1))
-        → 1 ≤ length (cond b (first_free ns around s left (k + 1)) (candidate s k))
+        → 1 ≤ length (if b then first_free ns around s left (k + 1) else candidate s k)
     by true rest = rest
     by false rest = candidate_some s k h
 

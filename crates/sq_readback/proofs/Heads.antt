@@ -17,9 +17,10 @@ use Rattle.sq_term.specs.declared.action.Action.{Action}
 use Rattle.sq_term.specs.declared.signature.FunDecl.{FunDecl}
 use Rattle.sq_term.proofs.SameTrees.{is_same_sort-decides}
 use Rattle.sq_typing.specs.Typing.{has_sort_at, has_count_at}
-use Rattle.sq_print.specs.Names.{Names, text_at, among, is_used, is_name, is_function, is_action}
+use Rattle.sq_print.specs.Names.{Names, text_at, is_used, is_name, is_function, is_action}
+use Rattle.sq_sym.specs.Candidates.{among}
 use Rattle.sq_print.specs.Names.{spelling, name_word, action_word}
-use Rattle.sq_print.proofs.Candidates.{equal}
+use Rattle.sq_sym.proofs.Candidates.{equal}
 use Rattle.sq_resolve.specs.declared.head.Head.{Head}
 use Rattle.sq_resolve.specs.declared.head.Head.TheVariants as head
 use Rattle.sq_resolve.specs.Scopes.{Variable, Context, meaning, symbol_head, last_given}

@@ -1,5 +1,5 @@
 -- The limits of the parser and of the resolver.
-use Rattle.std.proofs.Common.{◌≡◌, ◌≤◌, ◌+◌, ℕ, Bool, true, false, cond, max, nat_le, List}
+use Rattle.std.proofs.Common.{◌≡◌, ◌≤◌, ◌+◌, ℕ, Bool, true, false, if◌then◌else◌, max, nat_le, List}
 use Rattle.std.proofs.Common.{[], ◌∷◌, ◌++◌, length, Option, Some, None, refl, sym, ap, ◌∙◌, arith}
 use Rattle.std.proofs.lemmas.List.{append-nil}
 use Rattle.sq_token.specs.Sign.{Sign}
@@ -87,7 +87,7 @@ only_formula t built within =
 placed_height : (at : Form) (a : FormulaTree) → height a ≤ height (in_place at a)
 placed_height at a = by (nat_le (tree_rank a) (rank at))
   where
-    by : (b : Bool) → height a ≤ height (cond b a (tree.group a))
+    by : (b : Bool) → height a ≤ height (if b then a else tree.group a)
     by true = omega arith
     by false = omega arith
 

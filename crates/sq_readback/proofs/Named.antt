@@ -1,6 +1,6 @@
 -- All names in the syntax tree of a printed term are identifiers.
 use Rattle.std.proofs.Common.{◌≡◌, ◌≢◌, ◌+◌, ℕ, zero, suc, Bool, true}
-use Rattle.std.proofs.Common.{false, cond, ◌&&◌, nat_le, nat_lt, List, [], ◌∷◌, ◌++◌}
+use Rattle.std.proofs.Common.{false, if◌then◌else◌, ◌&&◌, nat_le, nat_lt, List, [], ◌∷◌, ◌++◌}
 use Rattle.std.proofs.Common.{length, map, replicate, Some, slice_get, refl, sym, ap, ◌∙◌, subst}
 use Rattle.std.proofs.Common.{arith}
 use Rattle.std.proofs.lemmas.Bool.Decides.{nat_tests}
@@ -54,7 +54,7 @@ use Rattle.sq_readback.proofs.Whole.{found_stand, OfFunction, of_function}
 placed_named : (at : Form) (a : FormulaTree) → IsNamed a → IsNamed (in_place at a)
 placed_named at a h = by (nat_le (tree_rank a) (rank at))
   where
-    by : (b : Bool) → IsNamed (cond b a (tree.group a))
+    by : (b : Bool) → IsNamed (if b then a else tree.group a)
     by true = h
     by false = h
 

@@ -1,5 +1,6 @@
 -- Where all names of a scope are plain, each stands for what it is the name of.
-use Rattle.std.proofs.Common.{◌≡◌, ◌≢◌, ◌<◌, ◌+◌, ℕ, zero, suc, Bool, true, false, cond, ◌&&◌}
+use Rattle.std.proofs.Common.{◌≡◌, ◌≢◌, ◌<◌, ◌+◌, ℕ, zero, suc, Bool, true, false, if◌then◌else◌}
+use Rattle.std.proofs.Common.{◌&&◌}
 use Rattle.std.proofs.Common.{nat_eq, List, [], ◌∷◌, ◌++◌, length, map, Option, Some, None}
 use Rattle.std.proofs.Common.{option_map, unwrap_or, slice_get, refl, sym, ap, ◌∙◌, subst, arith}
 use Rattle.std.specs.Str.{bytes_eq}
@@ -14,7 +15,7 @@ use Rattle.std.proofs.lemmas.Bool.{and_parts}
 use Rattle.sq_term.specs.Symbols.{declared_number}
 use Rattle.sq_term.specs.declared.action.Action.{Action}
 use Rattle.sq_print.specs.Names.{is_name, is_function, is_action, spelling}
-use Rattle.sq_print.proofs.Candidates.{differ, equal}
+use Rattle.sq_sym.proofs.Candidates.{differ, equal}
 use Rattle.sq_resolve.specs.Scopes.{Variable, Context, last_from, last_of, last_name_from}
 use Rattle.sq_resolve.specs.Scopes.{last_name}
 use Rattle.sq_printed.specs.Reads.{AreIdentifiers}
@@ -52,7 +53,7 @@ absent : (j : ℕ) (best : Option (ℕ × Sort)) (x : List ℕ) (vs : List Varia
 absent j best x [] h = refl
 absent j best x (v ∷ vs) h =
     let other : bytes_eq x v.0 ≡ false = differ x v.0 (λ e. h 0 v refl (sym e)) in
-    ap (λ b. last_from (j + 1) (cond b (Some (j, v.1)) best) x vs) other
+    ap (λ b. last_from (j + 1) (if b then Some (j, v.1) else best) x vs) other
     ∙ absent (j + 1) best x vs (λ i w e. h (suc i) w e)
 
 -- one place alone has the name
@@ -65,12 +66,12 @@ last_at j best x (u ∷ us) zero v e same h =
     let here : u ≡ v = cc in
     let equal_here : bytes_eq x u.0 ≡ true = equal x u.0 (sym same ∙ ap (λ w. w.0) (sym here)) in
     let place : j ≡ j + 0 = omega arith in
-    ap (λ b. last_from (j + 1) (cond b (Some (j, u.1)) best) x us) equal_here
+    ap (λ b. last_from (j + 1) (if b then Some (j, u.1) else best) x us) equal_here
     ∙ (absent (j + 1) (Some (j, u.1)) x us (λ i w f g. let clash = h (suc i) w f g in omega arith)
     ∙ (λ i. Some (place i, (here i).1)))
 last_at j best x (u ∷ us) (suc k) v e same h =
     let place : j + 1 + k ≡ j + suc k = omega arith in
-    last_at (j + 1) (cond (bytes_eq x u.0) (Some (j, u.1)) best) x us k v e same
+    last_at (j + 1) (if bytes_eq x u.0 then Some (j, u.1) else best) x us k v e same
     (λ i w f g. let at = h (suc i) w f g in omega arith) ∙ ap (λ n. Some (n, v.1)) place
 
 no_name : (j : ℕ) (best : Option ℕ) (x : List ℕ) (ys : List (List ℕ))
@@ -78,7 +79,7 @@ no_name : (j : ℕ) (best : Option ℕ) (x : List ℕ) (ys : List (List ℕ))
 no_name j best x [] h = refl
 no_name j best x (y ∷ ys) h =
     let other : bytes_eq x y ≡ false = differ x y (λ e. h 0 y refl (sym e)) in
-    ap (λ b. last_name_from (j + 1) (cond b (Some j) best) x ys) other
+    ap (λ b. last_name_from (j + 1) (if b then Some j else best) x ys) other
     ∙ no_name (j + 1) best x ys (λ i z e. h (suc i) z e)
 
 name_at : (j : ℕ) (best : Option ℕ) (x : List ℕ) (ys : List (List ℕ)) (k : ℕ)
@@ -88,12 +89,12 @@ name_at j best x [] k e h = cc
 name_at j best x (y ∷ ys) zero e h =
     let here : y ≡ x = cc in
     let place : j ≡ j + 0 = omega arith in
-    ap (λ b. last_name_from (j + 1) (cond b (Some j) best) x ys) (equal x y (sym here))
+    ap (λ b. last_name_from (j + 1) (if b then Some j else best) x ys) (equal x y (sym here))
     ∙ (no_name (j + 1) (Some j) x ys (λ i z f g. let clash = h (suc i) z f g in omega arith)
     ∙ ap Some place)
 name_at j best x (y ∷ ys) (suc k) e h =
     let place : j + 1 + k ≡ j + suc k = omega arith in
-    name_at (j + 1) (cond (bytes_eq x y) (Some j) best) x ys k e
+    name_at (j + 1) (if bytes_eq x y then Some j else best) x ys k e
     (λ i z f g. let at = h (suc i) z f g in omega arith) ∙ ap Some place
 
 -- ---- declarations
@@ -123,13 +124,13 @@ spelled_by test [] k x s named apart there passes = cc
 spelled_by test (d ∷ ds) zero x s named apart there passes =
     let here : d ≡ (x, s) = cc in
     let first : test d.1 ≡ true = ap (λ e. test e.1) here ∙ passes in
-    subst (λ b. IsSpelled test (cond b d.0 (spelling test ds)) (d ∷ ds)) (sym first)
+    subst (λ b. IsSpelled test (if b then d.0 else spelling test ds) (d ∷ ds)) (sym first)
     (record {
       identifier = named.0;
       place = 0;
       what = d.1;
       found_is = ap
-          (λ b. cond b (Some (0, d.1)) (option_map (λ r. (r.0 + 1, r.1)) (found d.0 ds)))
+          (λ b. (if b then Some (0, d.1) else option_map (λ r. (r.0 + 1, r.1)) (found d.0 ds)))
           (equal d.0 d.0 refl);
       passes = first;
     })
@@ -137,14 +138,14 @@ spelled_by test (d ∷ ds) (suc k) x s named apart there passes =
     by (test d.1) refl (spelled_by test ds k x s named.1 apart.1 there passes)
   where
     by : (b : Bool) → test d.1 ≡ b → IsSpelled test (spelling test ds) ds
-        → IsSpelled test (cond b d.0 (spelling test ds)) (d ∷ ds)
+        → IsSpelled test (if b then d.0 else spelling test ds) (d ∷ ds)
     by true first rest =
         record {
           identifier = named.0;
           place = 0;
           what = d.1;
           found_is = ap
-              (λ b. cond b (Some (0, d.1)) (option_map (λ r. (r.0 + 1, r.1)) (found d.0 ds)))
+              (λ b. (if b then Some (0, d.1) else option_map (λ r. (r.0 + 1, r.1)) (found d.0 ds)))
               (equal d.0 d.0 refl);
           passes = first;
         }

@@ -1,5 +1,6 @@
 -- What is printed comes back as the same term.
-use Rattle.std.proofs.Common.{◌≡◌, ◌≤◌, ℕ, true, cond, ◌&&◌, nat_le, List, [], ◌∷◌, ◌++◌, map}
+use Rattle.std.proofs.Common.{◌≡◌, ◌≤◌, ℕ, true, if◌then◌else◌, ◌&&◌, nat_le, List, [], ◌∷◌, ◌++◌}
+use Rattle.std.proofs.Common.{map}
 use Rattle.std.proofs.Common.{codes, Some, Ok, Err, slice_get, refl, sym, ap, ◌∙◌, subst, arith}
 use Rattle.std.proofs.lemmas.Bool.Decides.{nat_tests}
 use Rattle.sq_base.specs.declared.sort.Sort.{Sort}
@@ -116,7 +117,7 @@ calls_give c s t h few w =
       parsed = subst (λ x. IsOnlyFormula x tree) (sym cut.signs_are)
           (only_formula tree
           (built (names_of c) [] t (writable (signature c) [] s t h.sorted h.finds_bind)) w.depth);
-      resolved = ap limited_term term ∙ ap (λ b. cond b (Ok t) (Err TooLarge)) room;
+      resolved = ap limited_term term ∙ ap (λ b. (if b then Ok t else Err TooLarge)) room;
     }
 
 signs_same : (ts : List Token) → map sign_at (map lexeme_of ts) ≡ signs ts

@@ -1,6 +1,7 @@
 -- A tree that is not too deep is read at the front of its tokens, where the token behind does not
 -- go on with it.
-use Rattle.std.proofs.Common.{◌≡◌, ℕ, zero, suc, ◌<◌, ◌≤◌, Bool, true, false, cond, nat_eq, nat_le}
+use Rattle.std.proofs.Common.{◌≡◌, ℕ, zero, suc, ◌<◌, ◌≤◌, Bool, true, false, if◌then◌else◌, nat_eq}
+use Rattle.std.proofs.Common.{nat_le}
 use Rattle.std.proofs.Common.{List, [], ◌∷◌, ◌++◌, length, Option, Some, None, refl, sym, ap, ◌∙◌}
 use Rattle.std.proofs.Common.{arith, append_assoc, length-append}
 use Rattle.std.specs.Prelude.{⊤}
@@ -231,8 +232,8 @@ module _ (P : Form → List Sign → Read FormulaTree) (d : ℕ)
     where
       by_rank : (o : Binary) → binary_of i ≡ Some o → (b : Bool)
           → nat_eq (binary_rank o) (suc l) ≡ b
-          → cond b (recover (P (operand_form o) q) (λ c v. got (binary o t c) v)
-          (got t (mark i ∷ q))) (got t (mark i ∷ q)) ≡ got t (mark i ∷ q)
+          → (if b then recover (P (operand_form o) q) (λ c v. got (binary o t c) v)
+          (got t (mark i ∷ q)) else got t (mark i ∷ q)) ≡ got t (mark i ∷ q)
       by_rank o e true f =
           let same_rank : binary_rank o ≡ suc l = grind (arith, nat_tests) in
           let goes = goes_on_is i o e in

@@ -17,7 +17,8 @@ use Rattle.sq_base.specs.declared.sort.Sort.TheVariants as sort
 use Rattle.sq_token.specs.Kinds.{is_start, is_name, IsIdentifier, reserved_of}
 use Rattle.std.proofs.lemmas.Bool.{and_from, and_parts}
 use Rattle.sq_lex.proofs.Symbols.{ascii}
-use Rattle.sq_print.specs.Names.{candidate, candidate_count, stem}
+use Rattle.sq_print.specs.Names.{stem}
+use Rattle.sq_sym.specs.Candidates.{candidate, candidate_count}
 
 digits_pushed : (ds : List ℕ) (x : ℕ) → all_ascii_digits ds ≡ true → is_ascii_digit x ≡ true
     → all_ascii_digits (ds ++ x ∷ []) ≡ true

@@ -1,5 +1,6 @@
 -- The syntax tree of a printed term has the term as its term.
-use Rattle.std.proofs.Common.{◌≡◌, ◌+◌, ℕ, Bool, true, false, cond, nat_le, List, [], ◌∷◌, length}
+use Rattle.std.proofs.Common.{◌≡◌, ◌+◌, ℕ, Bool, true, false, if◌then◌else◌, nat_le, List, [], ◌∷◌}
+use Rattle.std.proofs.Common.{length}
 use Rattle.std.proofs.Common.{map, Some, refl, sym, arith}
 use Rattle.sq_base.specs.declared.sort.Sort.{Sort}
 use Rattle.sq_base.specs.declared.sort.Sort.TheVariants.{Message, Index, Timestamp}
@@ -34,7 +35,7 @@ pub placed_term : (c : Context) (bs : List Variable) (s : Sort) (at : Form) (a :
     (u : TermTree) → IsTerm c bs s a u → IsTerm c bs s (in_place at a) u
 placed_term c bs s at a u h = by (nat_le (tree_rank a) (rank at))
   where
-    by : (b : Bool) → IsTerm c bs s (cond b a (tree.group a)) u
+    by : (b : Bool) → IsTerm c bs s (if b then a else tree.group a) u
     by true = h
     by false = h
 
@@ -42,7 +43,7 @@ pub placed_sort : (c : Context) (bs : List Variable) (at : Form) (a : FormulaTre
     → own_sort c bs (in_place at a) ≡ own_sort c bs a
 placed_sort c bs at a = by (nat_le (tree_rank a) (rank at))
   where
-    by : (b : Bool) → own_sort c bs (cond b a (tree.group a)) ≡ own_sort c bs a
+    by : (b : Bool) → own_sort c bs (if b then a else tree.group a) ≡ own_sort c bs a
     by true = refl
     by false = refl
 

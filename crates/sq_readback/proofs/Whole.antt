@@ -1,6 +1,7 @@
 -- The syntax tree of a printed term has the term as its term, at the sort that the term has.
 use Rattle.std.proofs.Common.{◌≡◌, ◌≢◌, ◌≤◌, ◌+◌, ℕ, zero, suc, Bool}
-use Rattle.std.proofs.Common.{true, false, cond, ◌&&◌, ◌==◌, nat_eq, nat_lt, List, [], ◌∷◌, ◌++◌}
+use Rattle.std.proofs.Common.{true, false, if◌then◌else◌, ◌&&◌, ◌==◌, nat_eq, nat_lt, List, [], ◌∷◌}
+use Rattle.std.proofs.Common.{◌++◌}
 use Rattle.std.proofs.Common.{length, map, replicate, Option, Some, None, slice_get}
 use Rattle.std.proofs.Common.{append_assoc, append-nil, length-append, refl, sym, ap, ◌∙◌, subst}
 use Rattle.std.proofs.Common.{arith}
@@ -36,7 +37,8 @@ use Rattle.sq_print.specs.declared.form.Form.TheVariants as form
 use Rattle.sq_print.specs.Forms.{layout_of}
 use Rattle.sq_print.specs.Printed.{idx_text}
 use Rattle.sq_print.specs.Names.{Names, text_at, is_function, spelling, function_word, name_word}
-use Rattle.sq_print.specs.Names.{binder_name, bound_names, candidate_count, names_count}
+use Rattle.sq_print.specs.Names.{binder_name, bound_names, names_count}
+use Rattle.sq_sym.specs.Candidates.{candidate_count}
 use Rattle.sq_resolve.specs.declared.head.Head.TheVariants as head
 use Rattle.sq_resolve.specs.Scopes.{Variable, Context, meaning}
 use Rattle.sq_resolve.specs.Resolved.{own_sort, count_trees, schema_variable, function}
@@ -71,7 +73,7 @@ count_syntaxes ns around (cons t ts) = let rest = count_syntaxes ns around ts in
 argument_value : (f : Kind) (k : ℕ) → IsValue (argument_sort f k)
 argument_value f k = by (takes_boolean f k)
   where
-    by : (b : Bool) → IsValue (cond b Boolean Message)
+    by : (b : Bool) → IsValue (if b then Boolean else Message)
     by true = tt
     by false = tt
 
@@ -104,7 +106,7 @@ no_attacker c f word e = subst (HasWord c) e word
 word_layout : (k n m : ℕ) → layout_of (declared k) n m ≡ Word
 word_layout k n m = by (nat_eq n 0) (nat_eq m 0)
   where
-    by : (a b : Bool) → cond (a && b) Word Word ≡ Word
+    by : (a b : Bool) → (if a && b then Word else Word) ≡ Word
     by true true = refl
     by true false = refl
     by false b = refl
@@ -166,11 +168,11 @@ module _ (c : Context) (ns : Names) (actions : List Action) (same : AreNamesOf n
   called_term x k d s is ts m p e h = by is ts p.indices p.arguments (arguments_are k is ts e h)
     where
       read : (want : Sort) → want ≡ d.result
-          → cond (is_same_sort want d.result)
-          (Some (function (kind_of (declared_number k)) d.idx)) None
+          → (if is_same_sort want d.result then Some (function (kind_of (declared_number k)) d.idx)
+          else None)
           ≡ Some (function (declared k) d.idx)
       read want w =
-          ap (λ b. cond b (Some (function (kind_of (declared_number k)) d.idx)) None)
+          ap (λ b. (if b then Some (function (kind_of (declared_number k)) d.idx) else None))
           (ap (λ r. is_same_sort r d.result) w ∙ sort_is_itself d.result)
           ∙ ap (λ f. Some (function f d.idx)) (kind_of-function_number (declared k))
 

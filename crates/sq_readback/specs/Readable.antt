@@ -14,7 +14,8 @@ use Rattle.sq_term.specs.Syntax.{TsTree, pred, action, TermTree, name, fun, macr
 use Rattle.sq_term.specs.Syntax.{le, ts_eq, idx_eq, happens, all, some, find, TermTrees, nil, cons}
 use Rattle.sq_typing.specs.Functions.{builtin_functions, is_value_sort}
 use Rattle.sq_typing.specs.Typing.{Signature, has_sort}
-use Rattle.sq_print.specs.Names.{Names, candidate_count, names_count}
+use Rattle.sq_print.specs.Names.{Names, names_count}
+use Rattle.sq_sym.specs.Candidates.{candidate_count}
 use Rattle.sq_resolve.specs.Scopes.{Context}
 use Rattle.sq_token.specs.Sign.{Sign}
 use Rattle.sq_ast.specs.declared.formula.Form.TheVariants.{Formula}

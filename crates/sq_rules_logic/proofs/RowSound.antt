@@ -84,7 +84,7 @@ sorted_over env n schemas s (Some x) e h =
     subst (λ y. is_sorted (signature_of env y schemas (vars_of s)) s ≡ true) (sym there)
     (and_split (is_sorted g s) (fits s) (and_split (list_all is_binder_sort (vars_of s)) _ h).1).0
 
-sorted_at : (at : Site) → is_well_formed at.env at.goal at.sequent ≡ true
+pub sorted_at : (at : Site) → is_well_formed at.env at.goal at.sequent ≡ true
     → is_sorted (signature_at at) at.sequent ≡ true
 sorted_at at h =
     sorted_over at.env (statement_at at.env at.goal).system

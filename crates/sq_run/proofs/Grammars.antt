@@ -1,6 +1,7 @@
 -- A chain has the tree that the grammar gives to its words, and each chain's words are of the
 -- grammar.
-use Rattle.std.proofs.Common.{◌≡◌, ℕ, Bool, true, false, cond, List, [], ◌∷◌, ◌++◌, Option, Some}
+use Rattle.std.proofs.Common.{◌≡◌, ℕ, Bool, true, false, if◌then◌else◌, List, [], ◌∷◌, ◌++◌, Option}
+use Rattle.std.proofs.Common.{Some}
 use Rattle.std.proofs.Common.{None, codes, unwrap_or, refl, sym, ◌∙◌, ap}
 use Rattle.std.specs.Str.{bytes_eq}
 use Rattle.std.proofs.lemmas.Slice.Eq.{bytes_eq-Decides}
@@ -120,14 +121,16 @@ module _ (table : Declarations) where
       → Spelled words → Spelled (x ∷ sign ∷ words)
   signed x sign words k e s = first (bytes_eq sign (codes "&&")) refl e
     where
-      second : (b : Bool) → bytes_eq sign (codes "=>") ≡ b → cond b (Some Implies) None ≡ Some k
+      second : (b : Bool) → bytes_eq sign (codes "=>") ≡ b → (if b then Some Implies else None)
+          ≡ Some k
           → Spelled (x ∷ sign ∷ words)
       second true t h = let is = (bytes_eq-Decides sign (codes "=>")).0 t in
           (implies (single x) s.0, λ i. x ∷ sym is i ∷ s.1 i)
       second false t h = absurd (cc (h))
 
       first : (b : Bool) → bytes_eq sign (codes "&&") ≡ b
-          → cond b (Some And) (cond (bytes_eq sign (codes "=>")) (Some Implies) None) ≡ Some k
+          → (if b then Some And else if bytes_eq sign (codes "=>") then Some Implies else None)
+          ≡ Some k
           → Spelled (x ∷ sign ∷ words)
       first true t h = let is = (bytes_eq-Decides sign (codes "&&")).0 t in
           (with_and x s.0, with_and-words x s.0 ∙ (λ i. x ∷ sym is i ∷ s.1 i))

@@ -1,5 +1,6 @@
 -- Bytes that are scanned whole are laid out as what was found.
-use Rattle.std.proofs.Common.{◌≡◌, ◌+◌, ℕ, Bool, true, false, ◌&&◌, not, cond, ◌==◌, List, [], ◌∷◌}
+use Rattle.std.proofs.Common.{◌≡◌, ◌+◌, ℕ, Bool, true, false, ◌&&◌, not, if◌then◌else◌, ◌==◌, List}
+use Rattle.std.proofs.Common.{[], ◌∷◌}
 use Rattle.std.proofs.Common.{◌++◌, Option, Some, None, refl, sym, ◌∙◌, ap, subst, append_assoc}
 use Rattle.std.proofs.lemmas.Bool.{and_parts}
 use Rattle.std.specs.Option.{option_and_then}
@@ -218,9 +219,10 @@ module _ (b : ℕ) (bytes : List ℕ) (idles : Idle bytes) (pendings : Pending b
       (sym (idle done words at n b)) ∙ e)
     where
       by : (blank stop first : Bool) → is_blank b ≡ blank → (b == 46) ≡ stop → begins b ≡ first
-          → Ends (cond blank (Some (scanner done words at []))
-          (cond stop (Some (scanner (done ++ record { words = words; at = at } ∷ []) [] at []))
-          (cond first (Some (scanner done words at (b ∷ []))) None))) (n + 1) bytes found
+          → Ends (if blank then Some (scanner done words at []) else if stop
+          then Some (scanner (done ++ record { words = words; at = at } ∷ []) [] at [])
+          else if first then Some (scanner done words at (b ∷ [])) else None) (n + 1) bytes
+          found
           → Rest words before (b ∷ bytes)
       by true stop first x y z h = let r =
           idles done words at (n + 1) [] found h (behind_nothing bytes) in
@@ -238,10 +240,10 @@ module _ (b : ℕ) (bytes : List ℕ) (idles : Idle bytes) (pendings : Pending b
       by (extends (t ∷ ts) b) (is_token (t ∷ ts)) refl refl e
     where
       by : (more token : Bool) → extends (t ∷ ts) b ≡ more → is_token (t ∷ ts) ≡ token
-          → Ends (cond more (Some (scanner done words at (t ∷ (ts ++ b ∷ []))))
-          (option_and_then (after_other b)
-          (cond token
-          (Some (scanner done (words ++ (t ∷ ts) ∷ []) (first_end words at n) [])) None)))
+          → Ends (if more then Some (scanner done words at (t ∷ (ts ++ b ∷ [])))
+          else option_and_then (after_other b)
+          (if token then Some (scanner done (words ++ (t ∷ ts) ∷ []) (first_end words at n) [])
+          else None))
           (n + 1) bytes found
           → Token words (t ∷ ts) (b ∷ bytes)
       by true token x y h =

@@ -1,5 +1,6 @@
 -- Bytes that are laid out as sentences are scanned as these.
-use Rattle.std.proofs.Common.{◌≡◌, ◌+◌, ℕ, Bool, true, false, ◌&&◌, not, cond, ◌==◌, List, [], ◌∷◌}
+use Rattle.std.proofs.Common.{◌≡◌, ◌+◌, ℕ, Bool, true, false, ◌&&◌, not, if◌then◌else◌, ◌==◌, List}
+use Rattle.std.proofs.Common.{[], ◌∷◌}
 use Rattle.std.proofs.Common.{◌++◌, length, map, Option, Some, None, refl, sym, ◌∙◌, ap, arith}
 use Rattle.std.proofs.Common.{append_assoc, append-nil, length-append, add-zero}
 use Rattle.std.proofs.lemmas.Bool.{and_parts}
@@ -21,8 +22,8 @@ scanner done words at token = record { done = done; words = words; at = at; toke
 
 idle_by : (blank stop first : Bool) (a b c n : Option Scanner) → (blank ≡ true → first ≡ false)
     → (stop ≡ true → first ≡ false)
-    → cond first a (cond blank b (cond stop c (cond first a n)))
-    ≡ cond blank b (cond stop c (cond first a n))
+    → (if first then a else if blank then b else if stop then c else if first then a else n)
+    ≡ (if blank then b else if stop then c else if first then a else n)
 idle_by blank stop false a b c n h k = refl
 idle_by true stop true a b c n h k = absurd (cc (h refl))
 idle_by false true true a b c n h k = absurd (cc (k refl))
@@ -66,8 +67,8 @@ module _ (done : List Sentence) (words : List (List ℕ)) (at : ℕ) where
       ∙ further (token ++ []) n (n + 0) rest (omega arith)
   grown token n (b ∷ more) rest h =
       ap (λ (e : Bool). scanned
-      (cond e (now (token ++ b ∷ []))
-      (option_and_then (after_other b) (ended (scanner done words at token) n))) (n + 1)
+      (if e then now (token ++ b ∷ [])
+      else option_and_then (after_other b) (ended (scanner done words at token) n)) (n + 1)
       (more ++ rest)) h.0
       ∙ grown (token ++ b ∷ []) (n + 1) more rest h.1
       ∙ ap (λ (t : List ℕ). scanned (now t) (n + 1 + length more) rest)
@@ -87,10 +88,12 @@ module _ (done : List Sentence) (words : List (List ℕ)) (at : ℕ) where
   settled [] n (c ∷ cs) is h = absurd (cc (is))
   settled (t ∷ ts) n (c ∷ cs) is h =
       ap (λ (o : Option Scanner). scanned o (n + 1) cs) (
-      ap (λ (e : Bool). cond e (now ((t ∷ ts) ++ c ∷ []))
-      (option_and_then (after_other c) (cond (is_token (t ∷ ts)) (then_token (t ∷ ts) n) None)))
+      ap (λ (e : Bool). (if e then now ((t ∷ ts) ++ c ∷ [])
+      else option_and_then (after_other c) (if is_token (t ∷ ts) then then_token (t ∷ ts) n
+      else None)))
       h
-      ∙ ap (λ (e : Bool). option_and_then (after_other c) (cond e (then_token (t ∷ ts) n) None)) is
+      ∙ ap (λ (e : Bool). option_and_then (after_other c) (if e then then_token (t ∷ ts) n
+      else None)) is
       ∙ sym (idle done (words ++ (t ∷ ts) ∷ []) (first_end words at n) n c))
 
   token_scanned : (before : List ℕ) (s : Spaced) (n : ℕ) (rest : List ℕ) → IsSpaced before s

@@ -1,6 +1,6 @@
 -- From a run without trouble to goals that hold.
 use Rattle.std.proofs.Common.{◌≡◌, ◌<◌, ◌≤◌, ◌+◌, ℕ, zero, suc, Bool, true, false}
-use Rattle.std.proofs.Common.{cond, List, [], ◌∷◌, ◌++◌, length, map, Option, Some, None}
+use Rattle.std.proofs.Common.{if◌then◌else◌, List, [], ◌∷◌, ◌++◌, length, map, Option, Some, None}
 use Rattle.std.proofs.Common.{Result, Ok, Err, refl, sym, ◌∙◌, ap, subst, arith, slice_get, get_or}
 use Rattle.std.proofs.Common.{nat_lt}
 use Rattle.std.proofs.lemmas.Bool.Decides.{nat_tests}
@@ -73,7 +73,7 @@ module _ (env : EnvTree) (n : ℕ) where
         ≡ Ok ps → (b : Bool)
         → after_task
         (in_front
-        (cond b (Ok (with_labels (g.labels ++ plan.labels) ps)) (Err refusal.NotBuilt)) rest)
+        (if b then Ok (with_labels (g.labels ++ plan.labels) ps) else Err refusal.NotBuilt) rest)
         t.place (proof_trouble env n ts qed) ≡ None → Closing (g ∷ rest)
     small plan ps c true k =
         let further = later (with_labels (g.labels ++ plan.labels) ps ++ rest) k in (
@@ -260,7 +260,7 @@ pub lists_proved : (file text : List ℕ) → answer_for file ≡ record { statu
 lists_proved file text e = judged (nat_lt most_bytes (length file)) refl e
   where
     judged : (b : Bool) → nat_lt most_bytes (length file) ≡ b
-        → cond b (record { status = Limit; text = limit_text }) (answer_of file)
+        → (if b then record { status = Limit; text = limit_text } else answer_of file)
         ≡ record { status = Done; text = text } → ListsProved file text
     judged true t k = let x : Limit ≡ Done = ap (λ (a : Answer). a.status) k in absurd (cc (x))
     judged false t k = answer_lists file text (grind (arith, nat_tests)) k

@@ -1,5 +1,6 @@
 -- Names in the table of a file: which are there, and which are functions.
-use Rattle.std.proofs.Common.{◌≡◌, ◌+◌, ℕ, suc, Bool, true, false, ◌&&◌, ◌||◌, not, cond, List, []}
+use Rattle.std.proofs.Common.{◌≡◌, ◌+◌, ℕ, suc, Bool, true, false, ◌&&◌, ◌||◌, not, if◌then◌else◌}
+use Rattle.std.proofs.Common.{List, []}
 use Rattle.std.proofs.Common.{◌∷◌, ◌++◌, length, Option, Some, None, option_map, is_none, unwrap_or}
 use Rattle.std.proofs.Common.{refl, sym, ◌∙◌, ap, arith, append_assoc, append-nil, add-zero}
 use Rattle.std.specs.Str.{bytes_eq}
@@ -15,7 +16,7 @@ use Rattle.sq_run.specs.Files.{constant_functions, number_in}
 -- whether a name is in no front of a table and not in its rest
 in_neither : (here front : Bool) (o : Option (ℕ × Symbol)) (r : ℕ × Symbol) (rest : Bool)
     → is_none o ≡ not front && rest
-    → is_none (cond here (Some r) (option_map (λ r. (r.0 + 1, r.1)) o)) ≡ not (here || front)
+    → is_none (if here then Some r else option_map (λ r. (r.0 + 1, r.1)) o) ≡ not (here || front)
     && rest
 in_neither true front o r rest h = refl
 in_neither false front None r rest h = h
@@ -70,8 +71,8 @@ function-claims x n (c ∷ names) =
     by : (here : Bool)
         → function_in (option_map (λ r. (r.0 + 1, r.1)) (found x (claim_table (n + 1) names)))
         ≡ None → function_in
-        (cond here (Some (0, Statement n))
-        (option_map (λ r. (r.0 + 1, r.1)) (found x (claim_table (n + 1) names)))) ≡ None
+        (if here then Some (0, Statement n)
+        else option_map (λ r. (r.0 + 1, r.1)) (found x (claim_table (n + 1) names))) ≡ None
     by true h = refl
     by false h = h
 
@@ -84,8 +85,8 @@ function-front x n m (c ∷ names) claims =
     (found x (constant_table (n + 1) names)) (function-front x (n + 1) m names claims)
   where
     by : (here : Bool) (o p : Option (ℕ × Symbol)) → function_in o ≡ function_in p
-        → function_in (cond here (Some (0, Fun n)) (option_map (λ r. (r.0 + 1, r.1)) o))
-        ≡ function_in (cond here (Some (0, Fun n)) (option_map (λ r. (r.0 + 1, r.1)) p))
+        → function_in (if here then Some (0, Fun n) else option_map (λ r. (r.0 + 1, r.1)) o)
+        ≡ function_in (if here then Some (0, Fun n) else option_map (λ r. (r.0 + 1, r.1)) p)
     by true o p h = refl
     by false o p h = function-later o ∙ h ∙ sym (function-later p)
 
@@ -108,12 +109,12 @@ named x n (c ∷ names) h =
         → (is_among x names ≡ true → function_of (constant_table (n + 1) names) x
         ≡ Some (number_in (constant_table (n + 1) names) x))
         → function_in
-        (cond here (Some (0, Fun n))
-        (option_map (λ r. (r.0 + 1, r.1)) (found x (constant_table (n + 1) names))))
+        (if here then Some (0, Fun n)
+        else option_map (λ r. (r.0 + 1, r.1)) (found x (constant_table (n + 1) names)))
         ≡ Some (unwrap_or
         (function_in
-        (cond here (Some (0, Fun n))
-        (option_map (λ r. (r.0 + 1, r.1)) (found x (constant_table (n + 1) names))))) 0)
+        (if here then Some (0, Fun n)
+        else option_map (λ r. (r.0 + 1, r.1)) (found x (constant_table (n + 1) names)))) 0)
     by true h later f = refl
     by false h later f = later ∙ f h ∙ ap (λ (o : Option ℕ). Some (unwrap_or o 0)) (sym later)
 
@@ -131,8 +132,8 @@ is_named x n (c ∷ names) f h =
   where
     by : (here : Bool)
         → function_in
-        (cond here (Some (0, Fun n))
-        (option_map (λ r. (r.0 + 1, r.1)) (found x (constant_table (n + 1) names)))) ≡ Some f
+        (if here then Some (0, Fun n)
+        else option_map (λ r. (r.0 + 1, r.1)) (found x (constant_table (n + 1) names))) ≡ Some f
         → function_in (option_map (λ r. (r.0 + 1, r.1)) (found x (constant_table (n + 1) names)))
         ≡ function_of (constant_table (n + 1) names) x
         → (function_of (constant_table (n + 1) names) x ≡ Some f → is_among x names ≡ true)

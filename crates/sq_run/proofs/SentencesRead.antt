@@ -1,5 +1,6 @@
 -- A sentence that is read is one of the form, and what it declares is new.
-use Rattle.std.proofs.Common.{◌≡◌, ℕ, Bool, true, false, ◌&&◌, cond, List, [], ◌∷◌, ◌++◌, length}
+use Rattle.std.proofs.Common.{◌≡◌, ℕ, Bool, true, false, ◌&&◌, if◌then◌else◌, List, [], ◌∷◌, ◌++◌}
+use Rattle.std.proofs.Common.{length}
 use Rattle.std.proofs.Common.{Option, Some, None, option_map, is_none, codes, refl, sym, ◌∙◌, ap}
 use Rattle.std.proofs.Common.{subst}
 use Rattle.std.proofs.lemmas.Bool.{and_parts}
@@ -27,13 +28,13 @@ use Rattle.sq_run.specs.Scripts.{after_first, after_words}
 use Rattle.sq_run.specs.Files.{constant_words, claim_words, command_words, IsCommand}
 use Rattle.sq_run.proofs.Grammars.{chain_of-spelled}
 
-if_some : {A : Type 0} (b : Bool) (o : Option A) (y : A) → cond b o None ≡ Some y
+if_some : {A : Type 0} (b : Bool) (o : Option A) (y : A) → (if b then o else None) ≡ Some y
     → (b ≡ true) × (o ≡ Some y)
 if_some true o y e = (refl, e)
 if_some false o y e = absurd (cc (e))
 
 if_mapped : (b : Bool) (g : Script → Script) (s next : Script)
-    → option_map g (cond b (Some s) None) ≡ Some next → b ≡ true
+    → option_map g (if b then Some s else None) ≡ Some next → b ≡ true
 if_mapped true g s next e = refl
 if_mapped false g s next e = absurd (cc (e))
 
@@ -48,11 +49,12 @@ IsForm words c = (words ≡ command_words c) × IsCommand c
 
 abbrev of_one : List ℕ → Option Command
 of_one w =
-    cond (bytes_eq w (codes "split")) (Some Split)
-    (cond (bytes_eq w (codes "assumption")) (Some Assumption) None)
+    (if bytes_eq w (codes "split") then Some Split else if bytes_eq w (codes "assumption")
+    then Some Assumption else None)
 
 one_word : (w : List ℕ) (c : Command) (x y : Bool) → bytes_eq w (codes "split") ≡ x
-    → bytes_eq w (codes "assumption") ≡ y → cond x (Some Split) (cond y (Some Assumption) None)
+    → bytes_eq w (codes "assumption") ≡ y
+    → (if x then Some Split else if y then Some Assumption else None)
     ≡ Some c → IsForm (w ∷ []) c
 one_word w c true y a b e =
     subst (IsForm (w ∷ [])) (same_command Split c e)

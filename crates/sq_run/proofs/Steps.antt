@@ -1,5 +1,6 @@
 -- What one sentence of a file of the form makes of what went before.
-use Rattle.std.proofs.Common.{◌≡◌, ◌≤◌, ℕ, Bool, true, ◌&&◌, not, cond, List, [], ◌∷◌, ◌++◌, length}
+use Rattle.std.proofs.Common.{◌≡◌, ◌≤◌, ℕ, Bool, true, ◌&&◌, not, if◌then◌else◌, List, [], ◌∷◌}
+use Rattle.std.proofs.Common.{◌++◌, length}
 use Rattle.std.proofs.Common.{Option, Some, None, option_map, is_none, codes, refl, ◌∙◌, ap}
 use Rattle.std.specs.List.{list_all}
 use Rattle.sq_token.specs.declared.kind.Reserved.{Reserved}
@@ -60,10 +61,10 @@ constant_step constants x p new =
     let symbol : Symbol = Fun (length s.funs) in
     by_word s reserved.Abstract (codes "abstract") (x ∷ codes ":" ∷ codes "boolean" ∷ []) p
     (found_by_text reserved.Abstract)
-    ∙ ap (λ (b : Bool). cond b (option_map with_constant (with_symbol s x symbol)) None)
+    ∙ ap (λ (b : Bool). (if b then option_map with_constant (with_symbol s x symbol) else None))
     new.identifier
     ∙ ap (λ (b : Bool). option_map with_constant
-    (cond b (Some (record s { table = s.table ++ (x, symbol) ∷ [] })) None))
+    (if b then Some (record s { table = s.table ++ (x, symbol) ∷ [] }) else None))
     (free constants [] x new)
     ∙ (λ i. Some
     (record {
@@ -87,15 +88,15 @@ claim_step constants claims lemmas x f p len new declared shallow =
     let symbol : Symbol = Statement (length lemmas) in
     by_word s reserved.Lemma (codes "lemma") (x ∷ codes ":" ∷ formula_words f) p
     (found_by_text reserved.Lemma)
-    ∙ ap (λ (b : Bool). cond b (stated_chain s x (chain_of s.table (formula_words f))) None)
+    ∙ ap (λ (b : Bool). (if b then stated_chain s x (chain_of s.table (formula_words f)) else None))
     new.identifier
     ∙ ap (stated_chain s x) (chain_of-table constants claims (formula_words f)
     ∙ formula_reads constants f declared)
-    ∙ ap (λ (b : Bool). cond b
-    (option_map (with_stage (Stated x chain)) (with_symbol s x symbol)) None)
+    ∙ ap (λ (b : Bool). (if b then option_map (with_stage (Stated x chain)) (with_symbol s x symbol)
+    else None))
     (shallow_reads constants f declared shallow)
     ∙ ap (λ (b : Bool). option_map (with_stage (Stated x chain))
-    (cond b (Some (record s { table = s.table ++ (x, symbol) ∷ [] })) None))
+    (if b then Some (record s { table = s.table ++ (x, symbol) ∷ [] }) else None))
     (free constants claims x new)
     ∙ (λ i. Some
     (record {
@@ -134,9 +135,9 @@ module _ (constants claims : List (List ℕ)) (lemmas : List Lemma) (x : List �
       ≡ Some (proving (tasks ++ record { command = c; place = p } ∷ []))
   unfolding reserved_of
   command_step tasks (Intro label) p h =
-      ap (λ (b : Bool). commanded (proving tasks) (cond b (Some (Intro label)) None) p) h
+      ap (λ (b : Bool). commanded (proving tasks) (if b then Some (Intro label) else None) p) h
   command_step tasks (Destruct hyp first second) p h =
       (λ i. commanded (proving tasks)
-      (cond (h.0 i && h.1 i && h.2 i) (Some (Destruct hyp first second)) None) p)
+      (if h.0 i && h.1 i && h.2 i then Some (Destruct hyp first second) else None) p)
   command_step tasks Split p h = refl
   command_step tasks Assumption p h = refl

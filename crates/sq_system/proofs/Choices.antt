@@ -1,6 +1,6 @@
 -- Two instances are in conflict exactly where one of the choices on the common path separates them.
 use Rattle.std.proofs.Common.{◌≡◌, ℕ, zero, suc, ◌+◌, ◌≤◌, List, [], ◌∷◌, ◌++◌, Bool, true, false}
-use Rattle.std.proofs.Common.{cond, nat_eq, take, drop, refl, sym, ap, ◌∙◌, subst, arith}
+use Rattle.std.proofs.Common.{if◌then◌else◌, nat_eq, take, drop, refl, sym, ap, ◌∙◌, subst, arith}
 use Rattle.std.specs.Prelude.{◌&&◌, ◌||◌, not}
 use Rattle.std.specs.List.{list_any}
 use Rattle.std.proofs.lemmas.Bool.{false≢true}
@@ -125,8 +125,8 @@ module _ (xs ys : List ℕ) where
       by : (b c : Bool) → list_any (is_separated xs ys) (choices_from (n + indices_bound s) p q)
           ≡ false
           → list_any (is_separated xs ys)
-          (cond b (found_choice n s ++ choices_from (n + indices_bound s) p q)
-          (cond c (record { agree = n; differ = 0 } ∷ []) [])) ≡ false
+          (if b then found_choice n s ++ choices_from (n + indices_bound s) p q
+          else (if c then record { agree = n; differ = 0 } ∷ [] else [])) ≡ false
       by true c rest =
           rw (
             list_any-append (is_separated xs ys) (found_choice n s)
@@ -176,8 +176,8 @@ module _ (xs ys : List ℕ) where
       → (b : Bool)
       → same_numbers (take (indices_bound s) (drop n xs)) (take (indices_bound s) (drop n ys))
       ≡ b
-      → cond b (in_conflict p (drop (indices_bound s) (drop n xs)) q
-      (drop (indices_bound s) (drop n ys))) (is_choice s s)
+      → (if b then in_conflict p (drop (indices_bound s) (drop n xs)) q
+      (drop (indices_bound s) (drop n ys)) else is_choice s s)
       ≡ list_any (is_separated xs ys) (found_choice n s ++ choices_from (n + indices_bound s) p q)
   at_common_step n s p q same rest true e =
       rw (
@@ -205,7 +205,7 @@ module _ (xs ys : List ℕ) where
       by false = refl
 
   at_parting : (n : ℕ) (c : Bool) → same_numbers (take n xs) (take n ys) ≡ true
-      → c ≡ list_any (is_separated xs ys) (cond c (record { agree = n; differ = 0 } ∷ []) [])
+      → c ≡ list_any (is_separated xs ys) (if c then record { agree = n; differ = 0 } ∷ [] else [])
   at_parting n true same = rw same refl
   at_parting n false same = refl
 
@@ -216,19 +216,18 @@ module _ (xs ys : List ℕ) where
       by (same_step s t) refl (follows_all p q (n + indices_bound s))
     where
       by : (b : Bool) → same_step s t ≡ b → Follows (n + indices_bound s) p q
-          → cond (b && same_numbers (take (indices_bound s) (drop n xs))
-          (take (indices_bound t) (drop n ys)))
-          (in_conflict p (drop (indices_bound s) (drop n xs)) q
-          (drop (indices_bound t) (drop n ys))) (is_choice s t)
+          → (if b && same_numbers (take (indices_bound s) (drop n xs))
+          (take (indices_bound t) (drop n ys))
+          then in_conflict p (drop (indices_bound s) (drop n xs)) q
+          (drop (indices_bound t) (drop n ys)) else is_choice s t)
           ≡ list_any (is_separated xs ys)
-          (cond b (found_choice n s ++ choices_from (n + indices_bound s) p q)
-          (cond (is_choice s t) (record { agree = n; differ = 0 } ∷ []) []))
+          (if b then found_choice n s ++ choices_from (n + indices_bound s) p q
+          else (if is_choice s t then record { agree = n; differ = 0 } ∷ [] else []))
       by true e rest =
-          subst (λ u. cond
-          (same_numbers (take (indices_bound s) (drop n xs))
-          (take (indices_bound u) (drop n ys)))
-          (in_conflict p (drop (indices_bound s) (drop n xs)) q
-          (drop (indices_bound u) (drop n ys))) (is_choice s u)
+          subst (λ u. (if same_numbers (take (indices_bound s) (drop n xs))
+          (take (indices_bound u) (drop n ys))
+          then in_conflict p (drop (indices_bound s) (drop n xs)) q
+          (drop (indices_bound u) (drop n ys)) else is_choice s u)
           ≡ list_any (is_separated xs ys)
           (found_choice n s ++ choices_from (n + indices_bound s) p q)) (same_step_is s t e)
           (at_common_step n s p q same rest _ refl)

@@ -1,6 +1,7 @@
 -- What stands in an environment stands in a longer one.
 use Rattle.std.proofs.Common.{◌≡◌, ℕ, zero, suc, ◌+◌, ◌≤◌, List, [], ◌∷◌, ◌++◌, length, replicate}
-use Rattle.std.proofs.Common.{Option, Some, None, Bool, true, false, ◌&&◌, ◌||◌, cond, slice_get}
+use Rattle.std.proofs.Common.{Option, Some, None, Bool, true, false, ◌&&◌, ◌||◌, if◌then◌else◌}
+use Rattle.std.proofs.Common.{slice_get}
 use Rattle.std.proofs.Common.{nat_lt, refl, sym, ap, subst, length-append, arith}
 use Rattle.std.specs.Prelude.{nat_le}
 use Rattle.std.specs.List.{list_all}
@@ -73,7 +74,7 @@ all_and p (x ∷ xs) ys d e = let s =
     and_parts (p x) (list_all p xs) d in
     both_true (p x) (list_all p (xs ++ ys)) s.0 (all_and p xs ys s.1 e)
 
-count_before : (ms ns : List ℕ) (k n : ℕ) → has_count_at ms k n ≡ true
+pub count_before : (ms ns : List ℕ) (k n : ℕ) → has_count_at ms k n ≡ true
     → has_count_at (ms ++ ns) k n ≡ true
 count_before [] ns k n e = absurd (cc (e))
 count_before (m ∷ ms) ns zero n e = e
@@ -81,16 +82,16 @@ count_before (m ∷ ms) ns (suc k) n e = count_before ms ns k n e
 
 -- ---- terms
 
--- h has all that g has, over the same actions and variables
-record Within (g h : Signature) : Type 0 where
-  names : (k n : ℕ) → has_count_at g.names k n ≡ true → has_count_at h.names k n ≡ true
-  funs : (f : ℕ) (d : FunDecl) → slice_get g.funs f ≡ Some d → slice_get h.funs f ≡ Some d
-  actions : g.actions ≡ h.actions
-  schemas : g.schemas ≡ h.schemas
-  vars : g.vars ≡ h.vars
+-- h has all that g has, over the same variables
+pub record Within (g h : Signature) : Type 0 where
+  pub names : (k n : ℕ) → has_count_at g.names k n ≡ true → has_count_at h.names k n ≡ true
+  pub funs : (f : ℕ) (d : FunDecl) → slice_get g.funs f ≡ Some d → slice_get h.funs f ≡ Some d
+  pub actions : (k n : ℕ) → has_count_at g.actions k n ≡ true → has_count_at h.actions k n ≡ true
+  pub schemas : g.schemas ≡ h.schemas
+  pub vars : g.vars ≡ h.vars
 
 module _ (g h : Signature) (w : Within g h) where
-  index_within : (bs : List Sort) (i : Idx) → is_index g bs i ≡ true → is_index h bs i ≡ true
+  pub index_within : (bs : List Sort) (i : Idx) → is_index g bs i ≡ true → is_index h bs i ≡ true
   index_within bs (Free k) e = subst (λ (vs : List Sort). has_sort_at vs k Index ≡ true) w.vars e
   index_within bs (Bound k) e = e
 
@@ -101,7 +102,7 @@ module _ (g h : Signature) (w : Within g h) where
       both_within (is_index g bs i) (are_indices g bs is) (is_index h bs i) (are_indices h bs is)
       (index_within bs i) (indices_within bs is) e
 
-  time_within : (bs : List Sort) (t : TsTree) → is_timestamp g bs t ≡ true
+  pub time_within : (bs : List Sort) (t : TsTree) → is_timestamp g bs t ≡ true
       → is_timestamp h bs t ≡ true
   time_within bs (free k) e = subst (λ (vs : List Sort). has_sort_at vs k Timestamp ≡ true) w.vars e
   time_within bs (bound k) e = e
@@ -110,8 +111,7 @@ module _ (g h : Signature) (w : Within g h) where
   time_within bs (action a is) e =
       both_within (has_count_at g.actions a (length is)) (are_indices g bs is)
       (has_count_at h.actions a (length is)) (are_indices h bs is)
-      (λ c. subst (λ (counts : List ℕ). has_count_at counts a (length is) ≡ true) w.actions c)
-      (indices_within bs is) e
+      (w.actions a (length is)) (indices_within bs is) e
 
   function_within : (s : Sort) (i n : ℕ) (o p : Option FunDecl) (a b c d : Bool)
       → ((x : FunDecl) → o ≡ Some x → p ≡ Some x) → (a ≡ true → c ≡ true) → (b ≡ true → d ≡ true)
@@ -130,7 +130,7 @@ module _ (g h : Signature) (w : Within g h) where
       no_function false e = cc (e)
 
   mutual
-    term_within : (bs : List Sort) (s : Sort) (t : TermTree) → has_sort g bs s t ≡ true
+    pub term_within : (bs : List Sort) (s : Sort) (t : TermTree) → has_sort g bs s t ≡ true
         → has_sort h bs s t ≡ true
     term_within bs s (name n is) e =
         both_within (is_same_sort Message s) _ (is_same_sort Message s) _ (λ c. c)
@@ -189,7 +189,7 @@ module _ (g h : Signature) (w : Within g h) where
 
   -- ---- sequents
 
-  standing_within : (about : Subject) (r : Sort) (t : TermTree) → may_stand g about r t ≡ true
+  pub standing_within : (about : Subject) (r : Sort) (t : TermTree) → may_stand g about r t ≡ true
       → may_stand h about r t ≡ true
   standing_within about r t e =
       both_within (has_sort g [] r t) (suits about t) _ _ (term_within [] r t) (λ c. c) e
@@ -246,7 +246,7 @@ module _ (e : EnvTree) (names : List ℕ) (funs : List FunDecl) (systems : List 
   signature_within s schemas vars = record {
     names = count_before e.names names;
     funs = slice_get-append e.funs funs;
-    actions = refl;
+    actions = λ k n h. h;
     schemas = refl;
     vars = refl;
   }
@@ -294,8 +294,10 @@ module _ (e : EnvTree) (names : List ℕ) (funs : List FunDecl) (systems : List 
 by_role : (c p q : Bool) (fs more : List FunDecl)
     → (are_declared check_of_signature fs ≡ true → are_declared check_of_signature more ≡ true)
     → (are_declared any_function fs ≡ true → are_declared any_function more ≡ true)
-    → cond c (p && are_declared check_of_signature fs) (q && are_declared any_function fs) ≡ true
-    → cond c (p && are_declared check_of_signature more) (q && are_declared any_function more)
+    → (if c then p && are_declared check_of_signature fs else (q && are_declared any_function fs))
+    ≡ true
+    → (if c then p && are_declared check_of_signature more
+    else (q && are_declared any_function more))
     ≡ true
 by_role true p q fs more f g k =
     both_within p (are_declared check_of_signature fs) p (are_declared check_of_signature more)

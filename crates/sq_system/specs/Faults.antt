@@ -1,4 +1,5 @@
--- What a walk that would pass the limits, and a list of occurrences that is not there, are to a step.
+-- What a walk that would pass the limits, and a list of occurrences that is not there, are to a
+-- step.
 use Rattle.sq_term.specs.declared.term.SizeFault.{SizeFault}
 use Rattle.sq_term.specs.declared.term.SizeFault.TheVariants as size
 use Rattle.sq_system.specs.declared.fault.OccFault.{OccFault}

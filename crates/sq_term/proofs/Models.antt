@@ -1,7 +1,8 @@
 -- A model is one where no position is refused, and the first that is refused ends a model before
 -- it.
 use Rattle.std.proofs.Common.{◌≡◌, refl, sym, ap, ◌∙◌, subst, ℕ, zero, suc, ◌+◌, ◌<◌, ◌≤◌, List, []}
-use Rattle.std.proofs.Common.{◌∷◌, ◌++◌, length, Bool, true, false, cond, not, ◌||◌, ◌==◌, take}
+use Rattle.std.proofs.Common.{◌∷◌, ◌++◌, length, Bool, true, false, if◌then◌else◌, not, ◌||◌, ◌==◌}
+use Rattle.std.proofs.Common.{take}
 use Rattle.std.proofs.Common.{arith}
 use Rattle.std.specs.Prelude.{Some, None}
 use Rattle.std.specs.List.{list_any}
@@ -109,7 +110,7 @@ module _ (system : SystemTree) where
       (λ f. refused_from-none d (suc p) (earlier ++ x ∷ []) rest f)
     where
       at : (b : Bool) → may_follow system d earlier x ≡ b
-          → cond b (refused_from system d (suc p) (earlier ++ x ∷ []) rest) (Some p) ≡ None
+          → (if b then refused_from system d (suc p) (earlier ++ x ∷ []) rest else Some p) ≡ None
           → (k : ℕ) (i : Inst) → ElementAt (x ∷ rest) k i
           → (refused_from system d (suc p) (earlier ++ x ∷ []) rest ≡ None
           → AllMayFollow d (earlier ++ x ∷ []) rest)
@@ -125,7 +126,7 @@ module _ (system : SystemTree) where
   none-refused_from d p earlier [] h = refl
   none-refused_from d p earlier (x ∷ rest) h =
       let e : may_follow system d earlier x ≡ true = rw append_nil at (h 0 x refl) in
-      ap (λ b. cond b (refused_from system d (suc p) (earlier ++ x ∷ []) rest) (Some p)) e
+      ap (λ b. (if b then refused_from system d (suc p) (earlier ++ x ∷ []) rest else Some p)) e
       ∙ none-refused_from d (suc p) (earlier ++ x ∷ []) rest
       (λ k i g. subst (λ q. may_follow system d q i ≡ true)
       (sym (append_one earlier (take k rest) x)) (h (suc k) i g))
@@ -198,14 +199,14 @@ module _ (system : SystemTree) where
       positive (suc n) e = omega arith
 
       at : (b : Bool) → (m.indices == 0) ≡ b
-          → cond b (Some 0) (refused_from system m.indices 1 [] m.list) ≡ None
+          → (if b then Some 0 else refused_from system m.indices 1 [] m.list) ≡ None
           → IsTraceModel system m
       at true z e = absurd (let f : Some 0 ≡ None = e in cc)
       at false z e = all-model m (positive m.indices z) (refused_from-none m.indices 1 [] m.list e)
 
   pub none-first_refused : (m : Model) → IsTraceModel system m → first_refused system m ≡ None
   none-first_refused m M =
-      ap (λ b. cond b (Some 0) (refused_from system m.indices 1 [] m.list))
+      ap (λ b. (if b then Some 0 else refused_from system m.indices 1 [] m.list))
       (not_zero m.indices M.has_an_index) ∙ none-refused_from m.indices 1 [] m.list (model-all m M)
     where
       not_zero : (n : ℕ) → 0 < n → (n == 0) ≡ false
@@ -262,7 +263,7 @@ module _ (system : SystemTree) where
       (λ f. refused_from-some d (suc p) q (earlier ++ x ∷ []) rest f)
     where
       at : (b : Bool) → may_follow system d earlier x ≡ b
-          → cond b (refused_from system d (suc p) (earlier ++ x ∷ []) rest) (Some p) ≡ Some q
+          → (if b then refused_from system d (suc p) (earlier ++ x ∷ []) rest else Some p) ≡ Some q
           → (refused_from system d (suc p) (earlier ++ x ∷ []) rest ≡ Some q
           → Refused d (suc p) q (earlier ++ x ∷ []) rest) → Refused d p q earlier (x ∷ rest)
       at false m e later = record {
@@ -325,7 +326,7 @@ module _ (system : SystemTree) where
           let c : false ≡ true = sym f ∙ g' in cc
 
       at : (b : Bool) → (m.indices == 0) ≡ b
-          → cond b (Some 0) (refused_from system m.indices 1 [] m.list) ≡ Some q
+          → (if b then Some 0 else refused_from system m.indices 1 [] m.list) ≡ Some q
           → IsFirstRefused system m q
       at true z e = let f : Some 0 ≡ Some q = e in let g : 0 ≡ q =
           cc in subst (IsFirstRefused system m) g (zero_is m.indices z)

@@ -21,7 +21,8 @@ split_and true true e = (refl, refl)
 split_and true false e = cc
 split_and false b e = cc
 
-pub parse_number : {E : Type 0} (text : List ℕ) (r : Result ℕ E) → ParsesUnsigned 128 10 text r → IsTrue (is_number text) → r ≡ Ok (number_value text)
+pub parse_number : {E : Type 0} (text : List ℕ) (r : Result ℕ E) → ParsesUnsigned 128 10 text r
+    → IsTrue (is_number text) → r ≡ Ok (number_value text)
 parse_number [] r h n = cc
 parse_number (c ∷ cs) r h n =
     let both = split_and (all_ascii_digits (c ∷ cs)) (nat_lt (number_value (c ∷ cs)) (2 ^ 128)) n in
@@ -30,8 +31,10 @@ parse_number (c ∷ cs) r h n =
 
 -- the value of a token of the kind number
 pub number_read : {E : Type 0} (k : TokenKind) (text s : List ℕ) (r : Result ℕ E) (o : Option ℕ)
-    → k ≡ Number → s ≡ text → ParsesUnsigned 128 10 s r → IsTrue (is_of_kind k text) → o ≡ result_ok r → o ≡ number_of (sign k text)
-number_read Number text s r o e same h n v = rw (v, parse_number text r (subst (λ x. ParsesUnsigned 128 10 x r) same h) n) refl
+    → k ≡ Number → s ≡ text → ParsesUnsigned 128 10 s r → IsTrue (is_of_kind k text) → o
+    ≡ result_ok r → o ≡ number_of (sign k text)
+number_read Number text s r o e same h n v =
+    rw (v, parse_number text r (subst (λ x. ParsesUnsigned 128 10 x r) same h) n) refl
 number_read Identifier text s r o e same h n v = cc
 number_read (Reserved w) text s r o e same h n v = cc
 number_read (Punctuation p) text s r o e same h n v = cc

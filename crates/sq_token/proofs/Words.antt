@@ -1,5 +1,6 @@
 -- Reserved words and their texts.
-use Rattle.std.proofs.Common.{◌≡◌, ℕ, Bool, true, false, cond, List, [], ◌∷◌, Some, find, bytes_eq}
+use Rattle.std.proofs.Common.{◌≡◌, ℕ, Bool, true, false, if◌then◌else◌, List, [], ◌∷◌, Some, find}
+use Rattle.std.proofs.Common.{bytes_eq}
 use Rattle.std.proofs.Common.{refl, sym, ap, ◌∙◌, ◌↔◌}
 use Rattle.std.proofs.lemmas.Slice.Eq.{bytes_eq-Decides}
 use Rattle.sq_token.specs.declared.kind.Reserved.{Reserved}
@@ -7,17 +8,22 @@ use Rattle.sq_token.specs.declared.kind.Reserved.TheVariants as w
 use Rattle.sq_token.specs.Kinds.{reserved_text, reserved_of, reserved_words}
 
 -- what is found passes the test
-found_passes : {X : Type 0} (test : X → Bool) (xs : List X) (x : X) → find test xs ≡ Some x → test x ≡ true
+found_passes : {X : Type 0} (test : X → Bool) (xs : List X) (x : X) → find test xs ≡ Some x → test x
+    ≡ true
 found_passes test [] x e = cc
 found_passes test (y ∷ ys) x e = by (test y) refl e (found_passes test ys x)
   where
-    by : (b : Bool) → test y ≡ b → cond b (Some y) (find test ys) ≡ Some x → (find test ys ≡ Some x → test x ≡ true) → test x ≡ true
+    by : (b : Bool) → test y ≡ b → (if b then Some y else find test ys) ≡ Some x
+        → (find test ys ≡ Some x → test x ≡ true) → test x ≡ true
     by true p q h = cc
     by false p q h = h q
 
-pub text_of_found : (text : List ℕ) (r : Reserved) → reserved_of text ≡ Some r → text ≡ reserved_text r
+pub text_of_found : (text : List ℕ) (r : Reserved) → reserved_of text ≡ Some r → text
+    ≡ reserved_text r
 unfolding reserved_of
-text_of_found text r e = sym ((bytes_eq-Decides (reserved_text r) text).0 (found_passes (λ w. bytes_eq (reserved_text w) text) reserved_words r e))
+text_of_found text r e =
+    sym ((bytes_eq-Decides (reserved_text r) text).0
+    (found_passes (λ w. bytes_eq (reserved_text w) text) reserved_words r e))
 
 pub found_by_text : (r : Reserved) → reserved_of (reserved_text r) ≡ Some r
 unfolding reserved_of
@@ -73,5 +79,6 @@ found_by_text w.By = refl
 found_by_text w.From = refl
 
 -- a word is found by exactly its own text
-pub word_is : (text : List ℕ) (r : Reserved) → (reserved_of text ≡ Some r) ↔ (text ≡ reserved_text r)
+pub word_is : (text : List ℕ) (r : Reserved)
+    → (reserved_of text ≡ Some r) ↔ (text ≡ reserved_text r)
 word_is text r = (text_of_found text r, λ h. ap reserved_of h ∙ found_by_text r)

@@ -1,7 +1,8 @@
 -- A well-sorted term has one sort, and the rules read from a function's number what its declaration
 -- says.
 use Rattle.std.proofs.Common.{◌≡◌, refl, sym, ap, ◌∙◌, ℕ, zero, suc, List, [], ◌∷◌, Bool, true}
-use Rattle.std.proofs.Common.{false, cond, ◌&&◌, ◌==◌, length, slice_get, get_or, Option, Some}
+use Rattle.std.proofs.Common.{false, if◌then◌else◌, ◌&&◌, ◌==◌, length, slice_get, get_or, Option}
+use Rattle.std.proofs.Common.{Some}
 use Rattle.std.proofs.Common.{None}
 use Rattle.sq_base.specs.declared.sort.Sort.{Sort}
 use Rattle.sq_base.specs.declared.sort.Sort.TheVariants.{Message, Boolean}
@@ -141,6 +142,6 @@ argument_sorts g bs s f is ts h =
     let q = and_split (applies o (length is) (count_terms ts)) _ p.1 in
     (and_split (are_indices g bs is) _ q.1).1
 
-pub boolean_or_message : (b : Bool) → is_boolean_sort (cond b Boolean Message) ≡ b
+pub boolean_or_message : (b : Bool) → is_boolean_sort (if b then Boolean else Message) ≡ b
 boolean_or_message true = refl
 boolean_or_message false = refl

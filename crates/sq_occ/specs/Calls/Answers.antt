@@ -22,7 +22,8 @@ IsSearched Left left = left ≡ true
 IsSearched Right left = left ≡ false
 IsSearched Both left = Unit {0}
 
--- In each model, on each side that is searched and under each assignment: every ground occurrence of
+-- In each model, on each side that is searched and under each assignment: every ground occurrence
+-- of
 -- the name in the term's translation, at any depth of unfolding, is that of an entry of the list.
 abbrev pub ListsEveryOccurrence : EnvTree → SystemTree → ℕ → Side → TermTree → List OccTree
     → Type 0

@@ -11,7 +11,8 @@ use Rattle.sq_occ.proofs.call.add_side.Goals as goal
 pub returns-then-not-reads_macro : goal.returns-then-not-reads_macro
 returns-then-not-reads_macro c =
     subst
-    (λ (us : List OccTree). Adds (growing c.args.list.now) (growing c.scan.new.list) c.scan.result us)
+    (λ (us : List OccTree). Adds (growing c.args.list.now) (growing c.scan.new.list) c.scan.result
+    us)
     (side_plain c.args.env.now.funs c.args.name c.args.left (system_tree c.args.system.now)
     (term_tree c.args.t.now) (met_in_all [])
     (sym c.reads_macro.ensures ∙ c.if-not-reads_macro.true))

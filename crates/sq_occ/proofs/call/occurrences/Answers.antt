@@ -41,7 +41,8 @@ returns-clause-every c =
     subst
     (λ (us : List OccTree). ListsEveryOccurrence (env_tree c.args.env.now) s c.args.name
     c.args.side t us)
-    (sym (c.in_ok-add_sides.ensures.0 ∙ ap (λ os. occ_trees os ++ places c.args.env.now.funs s c.args.name c.args.side t)
+    (sym (c.in_ok-add_sides.ensures.0
+    ∙ ap (λ os. occ_trees os ++ places c.args.env.now.funs s c.args.name c.args.side t)
     c.new.ensures))
     (covered (env_tree c.args.env.now) s c.args.name c.args.side t
     c.count-count.ensures.facts.system (sym c.holds_schema.ensures ∙ c.if-holds_schema.false))

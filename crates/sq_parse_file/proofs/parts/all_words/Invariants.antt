@@ -5,4 +5,5 @@ use Rattle.sq_parse_file.specs.Read.{all_words}
 use Rattle.sq_parse_file.proofs.parts.all_words.Given as goal
 
 abbrev pub invariant-loop-turn : goal.invariant-loop-turn
-invariant-loop-turn l = (with_front l.names (all_words (signs l.rest)) ≡ all_words (signs l.tokens)) × (length l.rest + l._turn ≡ length l.tokens)
+invariant-loop-turn l = (with_front l.names (all_words (signs l.rest)) ≡ all_words (signs l.tokens))
+    × (length l.rest + l._turn ≡ length l.tokens)

@@ -5,4 +5,5 @@ use Rattle.sq_parse_file.proofs.Turns.{after}
 use Rattle.sq_parse_file.proofs.parts.arrows.Given as goal
 
 abbrev pub invariant-loop-turn : goal.invariant-loop-turn
-invariant-loop-turn l = after l.count (arrows_within (l._turn-end - l._turn) l.word (signs l.rest)) ≡ read_arrows l.word (signs l.tokens)
+invariant-loop-turn l = after l.count (arrows_within (l._turn-end - l._turn) l.word (signs l.rest))
+    ≡ read_arrows l.word (signs l.tokens)

@@ -16,4 +16,6 @@ abbrev pub decreases-all_fit : goal.decreases-all_fit
 decreases-all_fit l = 2 * l.room + 1
 
 abbrev pub invariant-all_fit-loop-process : goal.invariant-all_fit-loop-process
-invariant-all_fit-loop-process l = (process_heights (process_trees (drop l.process-index l.processes)) ≤ l.room) ↔ (process_heights (process_trees l.processes) ≤ l.room)
+invariant-all_fit-loop-process l =
+    (process_heights (process_trees (drop l.process-index l.processes)) ≤ l.room) ↔
+    (process_heights (process_trees l.processes) ≤ l.room)

@@ -2,7 +2,7 @@ use Rattle.std.proofs.Common.{◌≡◌, ◌||◌, ◌+◌, ◌∷◌, drop, tru
 use Rattle.std.specs.HashSet.{contains_text}
 use Rattle.std.proofs.lemmas.Grind.{common_steps}
 use Rattle.std.proofs.lemmas.Map.Text.{hash_set_updates_text}
-use Rattle.sq_print.specs.Names.{among}
+use Rattle.sq_sym.specs.Candidates.{among}
 use Rattle.sq_print.proofs.TakenNames.{one_taken}
 use Rattle.sq_print.proofs.taken.add_names.Goals as goal
 

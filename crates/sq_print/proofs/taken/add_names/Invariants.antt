@@ -1,6 +1,6 @@
 use Rattle.std.proofs.Common.{◌≡◌, ◌||◌, ℕ, List, drop}
 use Rattle.std.specs.HashSet.{contains_text}
-use Rattle.sq_print.specs.Names.{among}
+use Rattle.sq_sym.specs.Candidates.{among}
 use Rattle.sq_print.proofs.taken.add_names.Given as goal
 
 abbrev pub invariant-loop-name : goal.invariant-loop-name

@@ -11,11 +11,14 @@ pub returns-clause-ok : goal.returns-clause-ok
 returns-clause-ok c =
     let m = c.args.symbols.now in
     let bytes = c.in_ok-owned.ensures.ok in
-    let none : get_by_text m (string_bytes c.in_ok-owned.owned) ≡ None = ap (get_by_text m) bytes ∙ c.requires in
+    let none : get_by_text m (string_bytes c.in_ok-owned.owned) ≡ None = ap (get_by_text m) bytes
+    ∙ c.requires in
     let new = insert_entry-new string_eq m c.in_ok-owned.owned c.args.what none in
     let pushed = seen-append m.entries (c.in_ok-owned.owned, c.args.what) in
     elim c.match-insert.branch [
-      | in-Ok w ↦ rw w.result-is (ap seen w.in-Ok.ensures.entries ∙ (ap seen new ∙ (pushed ∙ ap (λ b. seen m.entries ++ (b, c.args.what) ∷ []) bytes)))
+      | in-Ok w ↦ rw w.result-is
+          (ap seen w.in-Ok.ensures.entries
+          ∙ (ap seen new ∙ (pushed ∙ ap (λ b. seen m.entries ++ (b, c.args.what) ∷ []) bytes)))
       | in-Err w ↦ rw w.result-is tt
     ]
 
@@ -23,9 +26,12 @@ pub returns-clause-length : goal.returns-clause-length
 returns-clause-length c =
     let m = c.args.symbols.now in
     let bytes = c.in_ok-owned.ensures.ok in
-    let none : get_by_text m (string_bytes c.in_ok-owned.owned) ≡ None = ap (get_by_text m) bytes ∙ c.requires in
+    let none : get_by_text m (string_bytes c.in_ok-owned.owned) ≡ None = ap (get_by_text m) bytes
+    ∙ c.requires in
     let new = insert_entry-new string_eq m c.in_ok-owned.owned c.args.what none in
     elim c.match-insert.branch [
-      | in-Ok w ↦ rw w.result-is (ap length w.in-Ok.ensures.entries ∙ (ap length new ∙ length-append m.entries ((c.in_ok-owned.owned, c.args.what) ∷ [])))
+      | in-Ok w ↦ rw w.result-is
+          (ap length w.in-Ok.ensures.entries
+          ∙ (ap length new ∙ length-append m.entries ((c.in_ok-owned.owned, c.args.what) ∷ [])))
       | in-Err w ↦ rw w.result-is tt
     ]

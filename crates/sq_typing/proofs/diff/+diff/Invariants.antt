@@ -5,4 +5,5 @@ use Rattle.sq_typing.specs.Diffs.{hold_diff}
 use Rattle.sq_typing.proofs.diff.+diff.Given as goal
 
 abbrev pub invariant-hold_diff-loop-term : goal.invariant-hold_diff-loop-term
-invariant-hold_diff-loop-term l = (l.found || hold_diff (term_trees (drop l.term-index l.terms))) ≡ hold_diff (term_trees l.terms)
+invariant-hold_diff-loop-term l = (l.found || hold_diff (term_trees (drop l.term-index l.terms)))
+    ≡ hold_diff (term_trees l.terms)

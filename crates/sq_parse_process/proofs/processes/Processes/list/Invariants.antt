@@ -5,4 +5,8 @@ use Rattle.sq_parse_process.proofs.Turns.{with_processes}
 use Rattle.sq_parse_process.proofs.processes.Processes.list.Given as goal
 
 abbrev pub invariant-loop-turn : goal.invariant-loop-turn
-invariant-loop-turn g l = with_processes l.found (read_processes (formula_at l.self.depth) (parse_process l.self.depth) (l._turn-end - l._turn) (signs l.rest)) ≡ read_processes (formula_at l.self.depth) (parse_process l.self.depth) (suc (length (signs l.tokens))) (signs l.tokens)
+invariant-loop-turn g l =
+    with_processes l.found
+    (read_processes (formula_at l.self.depth) (parse_process l.self.depth) (l._turn-end - l._turn)
+    (signs l.rest)) ≡ read_processes (formula_at l.self.depth) (parse_process l.self.depth)
+    (suc (length (signs l.tokens))) (signs l.tokens)

@@ -19,7 +19,9 @@ returns-in_err-yes g c =
 pub returns-in_err-no : goal.returns-in_err-no
 returns-in_err-no g c =
     err_reads formula_tree _ _ _ c.from_residual-in_err-no.ensures.1
-    (fails_from _ _ _ (ended_some (parse c.args.self.now.depth) _ _ _ _ _ _ _ c.in_ok-test.ensures ∙ ended_some (parse c.args.self.now.depth) _ _ _ _ _ _ _ c.in_ok-yes.ensures) (last_fails (parse c.args.self.now.depth) _ _ _ _ c.in_err-no.ensures))
+    (fails_from _ _ _ (ended_some (parse c.args.self.now.depth) _ _ _ _ _ _ _ c.in_ok-test.ensures
+    ∙ ended_some (parse c.args.self.now.depth) _ _ _ _ _ _ _ c.in_ok-yes.ensures)
+    (last_fails (parse c.args.self.now.depth) _ _ _ _ c.in_err-no.ensures))
 
 pub returns : goal.returns
 returns g c =

@@ -21,7 +21,9 @@ returns-in_err-left g c =
 pub returns-in_err-right : goal.returns-in_err-right
 returns-in_err-right g c =
     err_reads formula_tree _ _ _ c.from_residual-in_err-right.ensures.1
-    (fails_from _ _ _ (token_some (parse c.args.self.now.depth) _ _ _ _ _ c.in_ok-rest.ensures ∙ ended_some (parse c.args.self.now.depth) _ _ _ _ _ _ _ c.in_ok-left.ensures) (ended_fails (parse c.args.self.now.depth) _ _ _ _ _ _ c.in_err-right.ensures))
+    (fails_from _ _ _ (token_some (parse c.args.self.now.depth) _ _ _ _ _ c.in_ok-rest.ensures
+    ∙ ended_some (parse c.args.self.now.depth) _ _ _ _ _ _ _ c.in_ok-left.ensures)
+    (ended_fails (parse c.args.self.now.depth) _ _ _ _ _ _ c.in_err-right.ensures))
 
 pub returns : goal.returns
 returns g c =

@@ -13,7 +13,8 @@ returns-in_err-first g c = err_reads formula_tree _ _ _ c.from_residual.ensures.
 pub returns-in_err-second : goal.returns-in_err-second
 returns-in_err-second g c =
     err_reads formula_tree _ _ _ c.from_residual-in_err-second.ensures.1
-    (fails_from _ _ _ (ended_some (parse c.args.self.now.depth) _ _ _ _ _ _ _ c.in_ok-first.ensures) (ended_fails (parse c.args.self.now.depth) _ _ _ _ _ _ c.in_err-second.ensures))
+    (fails_from _ _ _ (ended_some (parse c.args.self.now.depth) _ _ _ _ _ _ _ c.in_ok-first.ensures)
+    (ended_fails (parse c.args.self.now.depth) _ _ _ _ _ _ c.in_err-second.ensures))
 
 pub returns : goal.returns
 returns g c =

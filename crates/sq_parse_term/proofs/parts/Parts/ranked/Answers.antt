@@ -17,7 +17,8 @@ returns-in_err-left g c = err_reads formula_tree _ _ _ c.from_residual.ensures.1
 
 pub loop-below-preserved : goal.loop-below-preserved
 loop-below-preserved g c = rank_next (parse c.args.self.now.depth)
-    (signs c.args.tokens.now) c.loop-below.below _ _ c.loop-below.invariant _ _ c.in_ok-longer.ensures
+    (signs c.args.tokens.now) c.loop-below.below _ _ c.loop-below.invariant _ _
+    c.in_ok-longer.ensures
 
 pub returns-in_err-longer : goal.returns-in_err-longer
 returns-in_err-longer g c = err_reads formula_tree _ _ _ c.from_residual-in_err-longer.ensures.1

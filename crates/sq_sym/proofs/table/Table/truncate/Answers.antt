@@ -7,8 +7,13 @@ use Rattle.sq_sym.proofs.table.Table.truncate.Goals as goal
 pub invariant_of-self : goal.invariant_of-self
 invariant_of-self c =
     let es = c.self.inside.symbols.entries in
-    let is : seen c.truncate.new.self.entries ≡ take c.args.len (seen es) = ap seen c.truncate.ensures.entries ∙ sym (take-map _ c.args.len es) in
-    (omega (arith, ap length c.truncate.ensures.entries, length-take c.args.len es), subst NamesDiffer (sym is) (NamesDiffer-take c.args.len (seen es) c.self.invariant.1))
+    let is : seen c.truncate.new.self.entries ≡ take c.args.len (seen es) =
+    ap seen c.truncate.ensures.entries ∙ sym (take-map _ c.args.len es) in (
+      omega (arith, ap length c.truncate.ensures.entries, length-take c.args.len es),
+      subst
+          NamesDiffer (sym is) (NamesDiffer-take c.args.len (seen es) c.self.invariant.1),
+    )
 
 pub returns : goal.returns
-returns c = ap seen c.truncate.ensures.entries ∙ (sym (take-map _ c.args.len c.self.inside.symbols.entries) ∙ rw c.self.view_is refl)
+returns c = ap seen c.truncate.ensures.entries
+    ∙ (sym (take-map _ c.args.len c.self.inside.symbols.entries) ∙ rw c.self.view_is refl)

@@ -5,4 +5,5 @@ use Rattle.sq_typing.proofs.signature.Signature.are_indices.Given as goal
 
 abbrev pub invariant-loop-i : goal.invariant-loop-i
 invariant-loop-i l =
-    are_indices (signature_tree l.self) (binder_sorts l.binders) (drop l.i-index l.indices) ≡ are_indices (signature_tree l.self) (binder_sorts l.binders) l.indices
+    are_indices (signature_tree l.self) (binder_sorts l.binders) (drop l.i-index l.indices)
+    ≡ are_indices (signature_tree l.self) (binder_sorts l.binders) l.indices

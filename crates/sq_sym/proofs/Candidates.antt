@@ -1,5 +1,6 @@
 -- Candidates for names differ, so one of so many is free.
-use Rattle.std.proofs.Common.{◌≡◌, ◌≢◌, ◌<◌, ◌≤◌, ◌+◌, ℕ, zero, suc, Bool, true, false, cond}
+use Rattle.std.proofs.Common.{◌≡◌, ◌≢◌, ◌<◌, ◌≤◌, ◌+◌, ℕ, zero, suc, Bool, true, false}
+use Rattle.std.proofs.Common.{if◌then◌else◌}
 use Rattle.std.proofs.Common.{◌||◌, nat_eq, List, [], ◌∷◌, ◌++◌, length, Some, slice_get, refl, sym}
 use Rattle.std.proofs.Common.{ap, ◌∙◌, subst, arith, length-append}
 use Rattle.std.specs.Str.{bytes_eq}
@@ -13,7 +14,7 @@ use Rattle.std.proofs.lemmas.Fmt.{decimal_is_IsNumeral_wide}
 use Rattle.std.proofs.lemmas.List.{append_cancel_left}
 use Rattle.std.proofs.lemmas.Map.Made.{length-le_from_is_member}
 use Rattle.std.proofs.lemmas.Slice.Eq.{bytes_eq-Decides}
-use Rattle.sq_print.specs.Names.{candidate, candidate_count, among}
+use Rattle.sq_sym.specs.Candidates.{candidate, candidate_count, among}
 
 numbered : (s : List ℕ) (k : ℕ) → 0 < k → candidate s k ≡ s ++ decimal k
 numbered s k h = let e : nat_eq k 0 ≡ false = grind (arith, nat_tests) in rw e refl
@@ -44,7 +45,7 @@ candidate-injective s (suc j) (suc k) hj hk e =
 first_byte : (c k : ℕ) → slice_get (candidate (c ∷ []) k) 0 ≡ Some c
 first_byte c k = by (nat_eq k 0)
   where
-    by : (b : Bool) → slice_get (cond b (c ∷ []) ((c ∷ []) ++ decimal k)) 0 ≡ Some c
+    by : (b : Bool) → slice_get (if b then c ∷ [] else (c ∷ []) ++ decimal k) 0 ≡ Some c
     by true = refl
     by false = refl
 
