@@ -35,7 +35,6 @@ use Rattle.sq_resolve.specs.Places.{identifier_fault, own_fault}
 use Rattle.sq_resolve.specs.declared.scope.Given.TheVariants as given
 use Rattle.sq_resolve.specs.declared.scope.Given.{Given}
 use Rattle.sq_resolve.specs.Scopes.{last_given, given_head, first_some, symbol_head}
-use Rattle.sq_resolve.specs.Scopes.{meaning}
 use Rattle.sq_resolve.specs.Scopes.{action_head}
 use Rattle.sq_resolve.specs.Resolved.{as_index, judged, group_variables}
 use Rattle.sq_elab.specs.Ways.{creates, receives, repeats, sends, tests, finds, defines}

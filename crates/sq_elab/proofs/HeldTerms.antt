@@ -39,9 +39,9 @@ use Rattle.sq_resolve.specs.declared.head.Head.{Head}
 use Rattle.sq_resolve.specs.declared.head.Head.TheVariants as head
 use Rattle.sq_resolve.specs.declared.scope.Given.TheVariants as given
 use Rattle.sq_resolve.specs.declared.scope.Given.{Given}
-use Rattle.sq_resolve.specs.Scopes.{Variable, Context, last_from, last_of, bound_head}
+use Rattle.sq_resolve.specs.Scopes.{Variable, last_from, last_of, bound_head}
 use Rattle.sq_resolve.specs.Scopes.{last_given, given_head, action_head, symbol_head, first_some}
-use Rattle.sq_resolve.specs.Scopes.{meaning, head_arity, head_sort}
+use Rattle.sq_resolve.specs.Scopes.{meaning, head_arity}
 use Rattle.sq_resolve.specs.Resolved.{Found, mapped, both, three, expect, read_as, chosen}
 use Rattle.sq_resolve.specs.Resolved.{judged, as_index, Moment, as_moment, Value}
 use Rattle.sq_resolve.specs.Resolved.{schema_variable, name_symbol, function, as_value, count_trees}

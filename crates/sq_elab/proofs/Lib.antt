@@ -16,3 +16,6 @@ pub mod Bodies
 pub mod FactLaws
 pub mod DeclareLaws
 pub mod WalkLaws
+pub mod FormulaLaws
+pub mod StepLaws
+pub mod TaskLaws

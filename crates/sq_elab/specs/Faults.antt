@@ -13,6 +13,8 @@ use Rattle.sq_term.specs.Systems.{ActionTree}
 use Rattle.sq_system.specs.Limits.{most_actions}
 use Rattle.sq_resolve.specs.declared.fault.ResolveFault.{ResolveFault}
 use Rattle.sq_resolve.specs.declared.fault.ResolveFault.TheVariants as r
+use Rattle.sq_resolve.specs.declared.stopped.Stopped.{Stopped}
+use Rattle.sq_resolve.specs.declared.stopped.Stopped.TheVariants.{Time, Limit}
 use Rattle.sq_resolve.specs.Built.{within_limits}
 use Rattle.sq_elab.specs.declared.fault.ElabFault.{ElabFault}
 use Rattle.sq_elab.specs.declared.fault.ElabFault.TheVariants as e
@@ -42,6 +44,20 @@ shape_fault a = if speaks_of_time a then Some e.ProcessShape else None
 -- the node at this depth is one too many or too deep
 abbrev pub node_fault : Count → ℕ → Option ElabFault
 node_fault k d = if within_limits (suc k.nodes) d then None else Some e.TooLarge
+
+-- how many nodes stand before the one at which the walk stops
+abbrev pub stop_place : Stopped → ℕ
+stop_place (Time k) = k
+stop_place (Limit k) = k
+
+abbrev pub of_stopping : Stopped → ElabFault
+of_stopping (Time k) = e.ProcessShape
+of_stopping (Limit k) = e.TooLarge
+
+-- a fault that stands before that node or at it counts before the node's own
+abbrev pub or_stop : Option ResolveFault → Stopped → ElabFault
+or_stop (Some x) s = of_resolving x
+or_stop None s = of_stopping s
 
 -- ---- of identifiers
 

@@ -7,6 +7,10 @@ pub mod Faults
 pub mod FreshNames
 pub mod Declarations
 pub mod Outcome
+pub mod Sentences
+pub mod Steps
+pub mod Tasks
 pub mod Walks
+pub mod Judging
 pub mod Worked
 pub mod Laws

@@ -1,4 +1,5 @@
 use sq_base::{NoMemory, Sort, Text};
+use std::alloc::{AllocError, AllocFailed};
 
 /// Why a process has no actions.
 ///
@@ -34,5 +35,27 @@ impl From<NoMemory> for ElabFault {
 
     fn from(_: NoMemory) -> Self {
         ElabFault::NoMemory
+    }
+}
+
+impl From<AllocError> for ElabFault {
+    ghost use Rattle.std.specs.Prelude.{◌≡◌};
+    ghost use Rattle.sq_elab.specs.declared.fault.ElabFault.TheVariants.{NoMemory};
+
+    ghost from_gives = { λ _ e. e ≡ NoMemory };
+
+    fn from(_: AllocError) -> Self {
+        ElabFault::from(NoMemory)
+    }
+}
+
+impl<T: Drop> From<AllocFailed<T>> for ElabFault {
+    ghost use Rattle.std.specs.Prelude.{◌≡◌};
+    ghost use Rattle.sq_elab.specs.declared.fault.ElabFault.TheVariants.{NoMemory};
+
+    ghost from_gives = { λ _ e. e ≡ NoMemory };
+
+    fn from(_: AllocFailed<T>) -> Self {
+        ElabFault::from(NoMemory)
     }
 }

@@ -1,6 +1,7 @@
 // What the definition of elaboration comes to: functions without a body, whose contracts are the
 // laws.
 ghost use Rattle.sq_elab.specs.Laws as law;
+ghost use Rattle.sq_elab.specs.Tasks as task;
 ghost use Rattle.sq_elab.specs.Walks as walk;
 
 /// A process is refused with the fault of its first place, in preorder, that has one.
@@ -82,4 +83,10 @@ pub fn a_walk_goes_on_where_it_stood()
 /// known.
 pub fn values_are_read_off_the_line()
     ensures { walk.ValuesAreReadOffTheLine }
+{}
+
+/// A walk that keeps a list of what is left, and takes its last part first, passes all of it in
+/// order.
+pub fn what_is_left_goes_on()
+    ensures { task.WhatIsLeftGoesOn }
 {}
