@@ -19,4 +19,11 @@ pub mod FactsStand
 pub mod FactsMayStand
 pub mod MacrosStand
 pub mod Formed
+pub mod Lookups
+pub mod InstanceReads
+pub mod BodyLimits
+pub mod EarlierLimits
+pub mod NestedLists
+pub mod SomeInstances
+pub mod Answering
 mod Examples

@@ -77,7 +77,7 @@ module _ (at : Site) (kept : IsEnvironment at.env)
   facts : IsSystem system
   facts = goal_system at.env at.goal kept
 
-  suffice : (step : Step) (ps : List SequentTree) → TimeRow at step ps → Each (HoldsAt th) ps
+  pub suffice : (step : Step) (ps : List SequentTree) → TimeRow at step ps → Each (HoldsAt th) ps
       → HoldsAt th s
   suffice _ _ (TimeRow.fact step F known) p =
       assume_sound th s F

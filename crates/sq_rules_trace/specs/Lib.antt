@@ -6,4 +6,8 @@ pub mod Induction
 -- the rows
 pub mod Rows
 pub mod Time
+pub mod Answers
 pub mod Laws
+-- as the program reads and builds them
+pub mod Instances
+pub mod Nested
